@@ -1,0 +1,3 @@
+pub mod Refusals
+pub mod Schedule
+pub mod Replies

@@ -1,0 +1,2 @@
+// Words of plain text.
+pub mod number;
