@@ -1,0 +1,9 @@
+pub mod Play
+pub mod Deciding
+pub mod Plays
+pub mod Laws
+pub mod Archive
+pub mod Binding
+pub mod Trial
+pub mod Drawing
+pub mod Drawn
