@@ -280,7 +280,7 @@ impl WhirNumbers {
     }
 
     // The numbers belong together with the schedule of their strategy.
-    pub fn is_consistent(&self, schedule: &[usize]) -> bool
+    pub(crate) fn is_consistent(&self, schedule: &[usize]) -> bool
         requires { ⌜ within-limits (numbers-of (now self)) ≡ true ⌝ }
         ensures { λ r. ⌜ r ≡ consistent (numbers-of (now (self .entry))) (now (schedule .entry)) ⌝ }
     {
@@ -303,7 +303,7 @@ impl WhirNumbers {
     }
 
     // No phase folds or opens too much.
-    pub fn openings_within(&self, schedule: &[usize]) -> bool
+    pub(crate) fn openings_within(&self, schedule: &[usize]) -> bool
         requires { ⌜ ((i : ℕ) → i < length (now schedule) → log-domain (numbers-of (now self)) (now schedule) i ≤ 16) ⌝ }
         ensures { λ r. ⌜ r ≡ openings-within (numbers-of (now (self .entry))) (now (schedule .entry)) ⌝ }
     {

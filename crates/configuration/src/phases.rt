@@ -65,7 +65,7 @@ impl WhirConfig {
     pub fn rs_reduction_factor(&self, round: usize) -> Option<usize>
         ensures { λ r. ⌜ r ≡ reduction (numbers-of (now (self .entry) .numbers)) round ⌝ }
     {
-        if round >= self.numbers.round_parameters.len() {
+        if round >= self.n_rounds() {
             return None;
         }
         let factor = self.round_folding_factor(round).unwrap_or(0);
@@ -111,7 +111,7 @@ impl WhirConfig {
     pub fn final_round_config(&self) -> RoundConfig
         ensures { λ r. ⌜ r ≡ final-round (numbers-of (now (self .entry) .numbers)) ⌝ }
     {
-        let last = self.numbers.round_parameters.len();
+        let last = self.n_rounds();
         let left = variables_before(
             self.numbers.folding_schedule.as_slice(),
             self.numbers.num_variables,
