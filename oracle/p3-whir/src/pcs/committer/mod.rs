@@ -1,0 +1,3 @@
+//! Ours: the one module of this directory that verifying needs.
+
+pub mod reader;

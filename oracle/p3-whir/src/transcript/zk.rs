@@ -1,0 +1,1 @@
+//! Ours: an empty stand-in. The zero-knowledge transcript is not built.
