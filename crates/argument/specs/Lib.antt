@@ -1,0 +1,10 @@
+pub mod Roots
+pub mod Sumcheck
+pub mod Claims
+pub mod Reading
+pub mod Accidents
+pub mod Honest
+pub mod Batching
+pub mod Soundness
+pub mod Completeness
+pub mod Readings

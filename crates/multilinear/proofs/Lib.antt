@@ -1,0 +1,9 @@
+pub mod Algebra
+pub mod Sums
+pub mod Linear
+pub mod Corners
+pub mod Digits
+pub mod Halving
+pub mod Embedded
+pub mod Loops
+pub mod Univariate
