@@ -1,0 +1,4 @@
+pub mod Domains
+pub mod Subgroup
+pub mod Listed
+pub mod Readings
