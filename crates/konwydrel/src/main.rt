@@ -1,4 +1,14 @@
 // The program: one command a run, by the words behind its name.
+use configuration::errors::WhirConfigError;
+use configuration::parameters::WhirNumbers;
+use configuration::whir::WhirConfig;
+use configuration_view::phases::Buffers;
+use configuration_view::phases::Phase;
+use configuration_view::refusals::RefusalLine;
+use configuration_view::refusals::RefusalLineDisplay;
+use configuration_view::view::view_of;
+use format::errors::ReadErrorDisplay;
+use format::reading::read_configuration;
 use parameters::errors::FoldingFactorErrorDisplay;
 use parameters::errors::ScheduleError;
 use parameters::folding::FoldingFactor;
@@ -6,8 +16,10 @@ use std::alloc::AllocError;
 use std::alloc::Global;
 use std::env;
 use std::error::AnyError;
+use std::fs;
 
-const USAGE: &str = "usage: konwydrel schedule N constant F | second F G | per-round F F ..";
+const USAGE: &str = "usage: konwydrel schedule N constant F | second F G | per-round F F ..
+       konwydrel config FILE";
 
 // Numbers above this one are refused by the program.
 const LIMIT: u64 = 65_535;
@@ -18,6 +30,7 @@ enum Request {
     Usage,
     Limit,
     Schedule(usize, FoldingFactor),
+    Config,
 }
 
 fn main(rt: LibcRuntime) -> Result<(), AnyError> {
@@ -36,6 +49,7 @@ fn run(rt: &LibcRuntime) -> Result<(), AnyError> {
         Request::Usage => Err(USAGE.into()),
         Request::Limit => Ok(println!(rt, "1 Limit")?),
         Request::Schedule(num_variables, strategy) => schedule(rt, num_variables, &strategy),
+        Request::Config => config(rt, words.as_slice()),
     }
 }
 
@@ -45,6 +59,9 @@ fn is(word: &String, name: &str) -> bool {
 }
 
 fn requested(heap: Global, words: &[String]) -> Result<Request, AllocError> {
+    if words.len() == 2 && is(&words[0], "config") {
+        return Ok(Request::Config);
+    }
     if words.len() < 4 || !is(&words[0], "schedule") {
         return Ok(Request::Usage);
     }
@@ -137,4 +154,66 @@ fn print_line(rt: &LibcRuntime, numbers: &[usize]) -> Result<(), AnyError> {
         print!(rt, "{n}")?;
     }
     Ok(println!(rt, "")?)
+}
+
+// The configuration of the file that the second word names: its schedule, phases and buffers, or the refusal.
+fn config(rt: &LibcRuntime, words: &[String]) -> Result<(), AnyError> {
+    let [_, path] = words else {
+        return Err(USAGE.into());
+    };
+    let text = fs::read(rt, path.as_str())?;
+    match read_configuration(rt.alloc(), text.as_slice()) {
+        Ok(numbers) => print_config(rt, numbers),
+        Err(fault) => {
+            let line = format!(rt.alloc(), "{fault}")?;
+            Err(line.into())
+        }
+    }
+}
+
+fn print_config(rt: &LibcRuntime, numbers: WhirNumbers) -> Result<(), AnyError> {
+    let config = match WhirConfig::new(rt.alloc(), numbers) {
+        Ok(config) => config,
+        Err(WhirConfigError::OutOfMemory) => return Err("out of memory".into()),
+        Err(fault) => {
+            let line = RefusalLine(fault);
+            return Ok(println!(rt, "{line}")?);
+        }
+    };
+    let view = view_of(rt.alloc(), &config)?;
+    print!(rt, "schedule ")?;
+    print_line(rt, config.numbers.folding_schedule.as_slice())?;
+    print_phases(rt, view.phases.as_slice())?;
+    print_buffers(rt, &view.buffers)
+}
+
+// A line for each phase: variables before it, rate, log of positions, rows opened, draws.
+fn print_phases(rt: &LibcRuntime, phases: &[Phase]) -> Result<(), AnyError> {
+    for (i, phase) in phases.iter().enumerate() {
+        let variables = phase.variables;
+        let rate = phase.rate;
+        let log = phase.log_positions;
+        let rows = phase.rows;
+        let draws = phase.draws;
+        println!(
+            rt,
+            "phase {i} variables {variables} rate {rate} log_positions {log} rows {rows} draws {draws}"
+        )?;
+    }
+    Ok(())
+}
+
+// How many places each buffer of a verification needs.
+fn print_buffers(rt: &LibcRuntime, buffers: &Buffers) -> Result<(), AnyError> {
+    let point = buffers.point;
+    let pair = buffers.pair;
+    let fold = buffers.fold;
+    let notes = buffers.notes;
+    let positions = buffers.positions;
+    Ok(
+        println!(
+            rt,
+            "buffers point {point} pair {pair} fold {fold} notes {notes} positions {positions}"
+        )?,
+    )
 }
