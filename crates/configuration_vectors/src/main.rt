@@ -1,5 +1,5 @@
 // Replays a stored list of configurations: the lines of each, and behind them a line with the verdict that is expected of it, `checked`
-// or the refusal as it is read out. It prints each verdict that differs, and at the end how many were compared.
+// or the refusal as it is read out. It prints each expectation that is not met, and at the end how many were compared.
 use configuration::errors::WhirConfigError;
 use configuration::whir::WhirConfig;
 use configuration_view::refusals::RefusalLine;
@@ -21,20 +21,34 @@ fn run(rt: &LibcRuntime) -> Result<(), AnyError> {
     let mut text = String::new(rt.alloc());
     for line in BufReader::new(rt.stdin()).lines(rt.alloc()) {
         let line = line?;
-        let Some(("expected", expected)) = line.as_str().split_once(' ') else {
+        if is_expectation(line.as_str()) {
+            compared = compared.saturating_add(1);
+            if !agrees(rt.alloc(), text.as_bytes(), line.as_str())? {
+                different = different.saturating_add(1);
+                println!(rt, "different: {line}")?;
+            }
+            text = String::new(rt.alloc());
+        } else {
             text.push_str(line.as_str())?;
             text.push_str("\n")?;
-            continue;
-        };
-        compared = compared.saturating_add(1);
-        let verdict = verdict_of(rt.alloc(), text.as_bytes())?;
-        if verdict.as_str() != expected {
-            different = different.saturating_add(1);
-            println!(rt, "{compared}: {verdict}, expected {expected}")?;
         }
-        text = String::new(rt.alloc());
     }
     Ok(println!(rt, "{compared} compared, {different} different")?)
+}
+
+// Whether a line says what is expected of the lines before it.
+fn is_expectation(line: &str) -> bool {
+    let Some((key, _)) = line.split_once(' ') else {
+        return false;
+    };
+    key == "expected"
+}
+
+// Whether the line's verdict is ours.
+fn agrees(heap: Global, text: &[u8], line: &str) -> Result<bool, AnyError> {
+    let verdict = verdict_of(heap, text)?;
+    let ours = format!(heap, "expected {verdict}")?;
+    Ok(ours.as_str() == line)
 }
 
 // Our verdict on the configuration of a text, in the list's own form.

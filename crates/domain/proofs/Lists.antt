@@ -2,12 +2,11 @@
 use mathlib.Core.Path.{_≡_, refl, sym, ap, _∙_, subst}
 use mathlib.Core.List.{List, [], _∷_}
 use Prim.Native.Nat.{ℕ, zero, suc, _+_, _<_, _≤_}
-use native.Mathlib.Numerals.{add-one}
 use native.Mathlib.Omega.{arith}
 use lib.ListN.{length, getD, take, drop}
 use Rattle.std.specs.shelf.Lists.{All}
-use Rattle.std.proofs.shelf.Lists.{drop-more, drop-all, take-rest, take-all}
-use Rattle.std.proofs.shelf.Elements.{all-getD}
+use Rattle.std.proofs.shelf.Lists.{drop-more, drop-all, take-all}
+use Rattle.std.proofs.shelf.Elements.{all-getD, all-more}
 use Rattle.ring.specs.Polynomials.{Distinct}
 
 module _ {A : Type 0} where
@@ -38,3 +37,13 @@ module _ {A : Type 0} where
 
   pub all-distinct : (l : List A) (i : ℕ) → length l ≤ i → (Distinct (drop i l) → Distinct l) → Distinct l
   all-distinct l i h back = back (subst Distinct (sym (drop-all i l h)) tt)
+
+  -- x is none of the first i, nor the one at i; or it is the one at i
+  pub absent-push : (l : List A) (i : ℕ) (x y : A) → i < length l → y ≡ getD l i y → (x ≡ y → ⊥) → All (λ z. x ≡ z → ⊥) (take i l) → All (λ z. x ≡ z → ⊥) (take (i + 1) l)
+  absent-push l i x y h is ne front = all-more (λ z. x ≡ z → ⊥) l i y h front (λ e. ne (e ∙ sym is))
+
+  pub absent-not : (l : List A) (i : ℕ) (x y : A) → i < length l → y ≡ getD l i y → x ≡ y → All (λ z. x ≡ z → ⊥) l → ⊥
+  absent-not l i x y h is e all = all-getD (λ z. x ≡ z → ⊥) l i y h all (e ∙ is)
+
+  pub absent-all : (l : List A) (i : ℕ) (x : A) → length l ≤ i → All (λ z. x ≡ z → ⊥) (take i l) → All (λ z. x ≡ z → ⊥) l
+  absent-all l i x h = subst (All (λ z. x ≡ z → ⊥)) (take-all i l h)

@@ -1,6 +1,6 @@
 // Replays positions of the subgroup that another implementation computed, and points at the edges of both domains.
 // A line is its kind, the modulus and numbers; an answer is 0 where it is a refusal, else 1 and what is told:
-// `position` log, index and the element; `point` log, m, index and the answer of the subgroup with its coordinates;
+// `capacity` the largest log size of the subgroup; `position` log, index and the element; `point` log, m, index and the answer of the subgroup with its coordinates;
 // `list` count, step and the answer, with the log size, to the list of the multiples of step;
 // `element` count, step, log, m, index and that list's answer; `repeat` count, i and j: the list of numbers with the one at i also at j is refused.
 use configuration::parameters::SecurityAssumption;
@@ -80,8 +80,26 @@ fn point_agrees<F: BaseField, D: WhirDomain<F>>(domain: &D, place: &[u32], want:
     }
 }
 
+// Capacity, id, strata and the most daring kind of soundness.
+fn kind_agrees<F: BaseField, D: WhirDomain<F>>(
+    domain: &D,
+    capacity: u32,
+    id: &[u8],
+    strata: bool,
+    daring: bool,
+) -> bool {
+    domain.max_log_domain_size() == capacity as usize
+        && domain.protocol_id() == id
+        && domain.stratified_queries() == strata
+        && domain.supports_security_assumption(SecurityAssumption::JohnsonBound)
+        && domain.supports_security_assumption(SecurityAssumption::CapacityBound) == daring
+}
+
 fn subgroup_agrees<F: TwoAdicField>(kind: &str, numbers: &[u32]) -> bool {
     match (kind, numbers) {
+        ("capacity", [capacity]) => {
+            kind_agrees::<F, SubgroupDomain>(&SubgroupDomain, *capacity, b"", false, true)
+        }
         ("position", [log, index, value]) => {
             match SubgroupDomain.query_point(*log as usize, 0, *index as usize) {
                 Ok(WhirQueryPoint::Univariate(v)) => {
@@ -109,11 +127,7 @@ fn multiples<F: BaseField>(heap: Global, count: u32, step: u32) -> Result<Vec<F>
 fn list_agrees<F: BaseField>(list: &[F], want: &[u32]) -> bool {
     match (ListedDomain::new(list), want) {
         (Ok(domain), [1, log]) => {
-            domain.max_log_domain_size() == *log as usize
-                && domain.protocol_id() == b"list"
-                && domain.stratified_queries()
-                && domain.supports_security_assumption(SecurityAssumption::JohnsonBound)
-                && !domain.supports_security_assumption(SecurityAssumption::CapacityBound)
+            kind_agrees::<F, ListedDomain<F>>(&domain, *log, b"list", true, false)
         }
         (Err(_), [0]) => true,
         _ => false,
@@ -162,7 +176,7 @@ fn listed_agrees<F: BaseField>(
 }
 
 fn line_agrees(heap: Global, kind: &str, line: &[u32]) -> Result<bool, AnyError> {
-    let subgroup = kind == "position" || kind == "point";
+    let subgroup = kind == "capacity" || kind == "position" || kind == "point";
     match line {
         [257, numbers @ ..] => {
             if subgroup {

@@ -18,8 +18,8 @@ use std::env;
 use std::error::AnyError;
 use std::fs;
 
-const USAGE: &str = "usage: konwydrel schedule N constant F | second F G | per-round F F ..
-       konwydrel config FILE";
+const USAGE: &str =
+    "usage: konwydrel schedule N constant F | second F G | per-round F F .., or konwydrel config FILE";
 
 // Numbers above this one are refused by the program.
 const LIMIT: u64 = 65_535;
@@ -34,7 +34,11 @@ enum Request {
 }
 
 fn main(rt: LibcRuntime) -> Result<(), AnyError> {
-    rt.report(run(&rt))
+    let outcome = run(&rt);
+    if let Err(fault) = &outcome {
+        eprintln!(rt, "{fault}")?;
+    }
+    outcome
 }
 
 fn run(rt: &LibcRuntime) -> Result<(), AnyError> {

@@ -1,0 +1,4 @@
+pub mod Opening
+pub mod Tree
+pub mod Shelves
+pub mod Spread

@@ -1,0 +1,9 @@
+pub mod Summing
+pub mod Siting
+pub mod Writing
+pub mod Taking
+pub mod Describing
+pub mod Stepping
+pub mod Cuts
+pub mod Filling
+pub mod Placing

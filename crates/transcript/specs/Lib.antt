@@ -1,0 +1,12 @@
+pub mod Depths
+pub mod Bytes
+pub mod Steps
+pub mod Shape
+pub mod Pattern
+pub mod Instances
+pub mod Opening
+pub mod Cutting
+pub mod Positions
+pub mod Playing
+pub mod Written
+pub mod Sites
