@@ -1,5 +1,7 @@
 //! The argument over its numbers alone: sumcheck, batching by powers, and the two halves of the theorem about a whole run, of every
 //! reading (claims, challenges, opened rows with their points, final polynomial), under either variable order.
+#![tactic(auto)]
+
 ghost use Rattle.std.specs.Prelude.{◌≡◌};
 ghost use Rattle.ring.specs.Polynomials.{value as at};
 ghost use Rattle.argument.specs.Sumcheck.{message};

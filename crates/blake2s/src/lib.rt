@@ -1,4 +1,5 @@
 //! BLAKE2s with no key and a 32-byte digest (RFC 7693).
+#![tactic(auto)]
 
 mod compress;
 mod state;

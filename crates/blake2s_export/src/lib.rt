@@ -1,4 +1,5 @@
 //! BLAKE2s for programs in C or Rust that link this library.
+#![tactic(auto)]
 
 ghost use Rattle.std.specs.Prelude.{◌≡◌};
 ghost use Rattle.blake2s.specs.Blake2s.{hash};

@@ -4,6 +4,7 @@
 //! `filled LENGTH PIECE` prints the hash of LENGTH bytes, byte i being (7 i + 3) modulo 251, taken in PIECE at a time.
 //! `rounds WORDS` prints the working words of a compression before its first round and after each round; the words,
 //! in hexadecimal with commas between them, are eight of the state, sixteen of the block, the count and the last flag.
+#![tactic(auto)]
 
 ghost use Rattle.std.specs.Prelude.{◌≡◌, ℕ, ◌+◌, ◌^◌, ◌<◌, ◌≤◌, List, ◌++◌, length};
 ghost use Rattle.blake2s.specs.Absorbed.{Absorbed};

@@ -1,4 +1,5 @@
 //! Opening schemes: commitments to matrices, and rows that are opened against them.
+#![tactic(auto)]
 
 ghost use Rattle.std.specs.Prelude.{◌≡◌, ℕ, ◌*◌, Bool, List, [], ◌∷◌, ◌++◌, length, drop, ◌==◌};
 ghost use Rattle.commit.specs.Opening.{Meaning, Laws, opens, piece};

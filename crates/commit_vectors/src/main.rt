@@ -1,5 +1,7 @@
 //! Replays stored openings: each line has the answer that its opening has to get (`scripts/opening_vectors.py` says how a line reads).
 //! Prints how many were accepted and refused as they have to be, and the bytes of a shelf's number.
+#![tactic(auto)]
+
 use commit::OpeningScheme;
 use commit::extension::ExtensionScheme;
 use commit::kept::KeptTables;

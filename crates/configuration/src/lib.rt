@@ -1,4 +1,6 @@
 // Checked configurations of a WHIR run.
+#![tactic(auto)]
+
 pub mod checks;
 pub mod errors;
 pub mod making;

@@ -1,5 +1,7 @@
 // Replays a stored list of configurations: the lines of each, and behind them a line with the verdict that is expected of it, `checked`
 // or the refusal as it is read out. It prints each expectation that is not met, and at the end how many were compared.
+#![tactic(auto)]
+
 use anyhow::anyhow;
 use configuration::errors::WhirConfigError;
 use configuration::whir::WhirConfig;

@@ -2,6 +2,8 @@
 //!
 //! A domain has for each log size up to its capacity, each number of variables m up to that and each index below the size
 //! one point of m base elements.
+#![tactic(auto)]
+
 ghost use Rattle.std.specs.Prelude.{◌≡◌, ℕ, ◌^◌, ◌≤◌, Bool};
 ghost use Rattle.domain.specs.Domains.{Domain, inside, told, coordinate, Lawful};
 

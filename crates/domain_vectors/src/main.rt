@@ -3,6 +3,8 @@
 // `capacity` the largest log size of the subgroup; `position` log, index and the element; `point` log, m, index and the answer of the subgroup with its coordinates;
 // `list` count, step and the answer, with the log size, to the list of the multiples of step;
 // `element` count, step, log, m, index and that list's answer; `repeat` count, i and j: the list of numbers with the one at i also at j is refused.
+#![tactic(auto)]
+
 use configuration::parameters::SecurityAssumption;
 use domain::WhirDomain;
 use domain::listed::ListedDomain;

@@ -1,12 +1,24 @@
 -- One, two and three tower steps over any field. Assumes nothing.
-use Rattle.std.proofs.Common.{lit<}
+use Rattle.std.proofs.Common.{refl, inl, inr, lit<}
 use Rattle.ring.specs.Ring.{Ops}
 use Rattle.field.specs.Laws.{IsField}
 use Rattle.field.specs.Theorems.{Towers}
-use Rattle.field.specs.Extension.{Extends, itself, doubled}
+use Rattle.field.specs.Extension.{Extends, Sized, itself, doubled}
 use Rattle.field.specs.Tower.{pair_ops}
 use Rattle.field.specs.Pairs.{pair_field}
 use Rattle.field.specs.Extensions.{itself_extends, doubled_extends}
+
+pub sized_1 : Sized 1
+sized_1 = inl refl
+
+pub sized_2 : Sized 2
+sized_2 = inr (inl refl)
+
+pub sized_4 : Sized 4
+sized_4 = inr (inr (inl refl))
+
+pub sized_8 : Sized 8
+sized_8 = inr (inr (inr refl))
 
 module _ {A : Type 0} {o : Ops A} (F : IsField o) where
   pub over_itself : Extends o o (itself o)

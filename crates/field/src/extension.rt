@@ -1,8 +1,7 @@
 ghost use Rattle.std.specs.Prelude.{◌≡◌, slice_index_or, slice_set};
 ghost use Rattle.field.specs.Tower.{pair_ops};
 ghost use Rattle.field.specs.Extension.{itself, doubled};
-ghost use Rattle.field.specs.Towers.{over_itself, one_step, two_steps};
-ghost use Rattle.std.proofs.Common.{rules};
+ghost use Rattle.field.specs.Towers.{over_itself, one_step, two_steps, three_steps, sized_1, sized_2, sized_4, sized_8};
 
 use crate::pair::Pair;
 use crate::{ExtensionField, Field};
@@ -12,7 +11,7 @@ impl<F: Field> ExtensionField<F> for F {
 
     ghost extends = { over_itself F.Field.lawful };
 
-    ghost sized = { Prim.search rules };
+    ghost sized = { sized_1 };
 
     fn embed(x: F) -> F {
         x
@@ -36,7 +35,7 @@ impl<F: Field> ExtensionField<F> for Pair<F> {
 
     ghost extends = { one_step F.Field.lawful };
 
-    ghost sized = { Prim.search rules };
+    ghost sized = { sized_2 };
 
     fn embed(x: F) -> Pair<F> {
         embed_pair::<F, F>(x)
@@ -60,7 +59,7 @@ impl<F: Field> ExtensionField<F> for Pair<Pair<F>> {
 
     ghost extends = { two_steps F.Field.lawful };
 
-    ghost sized = { Prim.search rules };
+    ghost sized = { sized_4 };
 
     fn embed(x: F) -> Pair<Pair<F>> {
         embed_pair::<F, Pair<F>>(x)
@@ -81,6 +80,10 @@ impl<F: Field> ExtensionField<F> for Pair<Pair<F>> {
 
 impl<F: Field> ExtensionField<F> for Pair<Pair<Pair<F>>> {
     ghost extension = { doubled (pair_ops (pair_ops F.Field.ops)) (doubled (pair_ops F.Field.ops) (doubled F.Field.ops (itself F.Field.ops))) };
+
+    ghost extends = { three_steps F.Field.lawful };
+
+    ghost sized = { sized_8 };
 
     fn embed(x: F) -> Pair<Pair<Pair<F>>> {
         embed_pair::<F, Pair<Pair<F>>>(x)

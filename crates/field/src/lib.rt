@@ -1,3 +1,5 @@
+#![tactic(auto)]
+
 ghost use Rattle.std.specs.Prelude.{◌≡◌, T, if◌then◌else◌, Some, None, nat_lt, slice_index_or, slice_set};
 ghost use Rattle.ring.specs.Ring.{Ops};
 ghost use Rattle.field.specs.Laws.{IsField};

@@ -1,5 +1,7 @@
 // Replays products that another implementation computed. A line is `mul`, the modulus, the degree D, and the D coefficients of
 // each factor and of the product.
+#![tactic(auto)]
+
 use field::bytes::{read_element, write_element};
 use field::pair::Pair;
 use field::residue::Residue;

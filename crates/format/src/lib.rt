@@ -1,4 +1,6 @@
 // Reading the plain-text case format: so far the lines of a configuration.
+#![tactic(auto)]
+
 pub mod cursor;
 pub mod errors;
 pub mod groups;

@@ -1,4 +1,6 @@
 // The program: one command a run, by the words behind its name.
+#![tactic(auto)]
+
 use anyhow::anyhow;
 use configuration::errors::WhirConfigError;
 use configuration::parameters::WhirNumbers;

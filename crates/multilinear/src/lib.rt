@@ -1,6 +1,8 @@
 //! Tables of 2^n values as multilinear functions: weights, evaluation, folds and rows, over any field.
 //!
 //! A list of draws stands for a point of a table by its variable order: under `Prefix` as it is, under `Suffix` reversed.
+#![tactic(auto)]
+
 ghost use Rattle.multilinear.specs.Embedding.{EmbeddingKeepsTables};
 ghost use Rattle.multilinear.specs.Laws.{CornersAreDigits, Interpolation, FoldKeepsValue, RowTellsPosition, SelectIsPower, DifferentTablesAgreeRarely};
 

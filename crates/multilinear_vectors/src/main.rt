@@ -1,6 +1,8 @@
 // Replays weights, table values, expansions and sumcheck rounds that another implementation computed. A line is its kind, the modulus,
 // the degree D, for all but a round the number of variables n, and then elements of D coefficients each, the last ones the answer:
 // `eq` and `select` two points, `value` 2^n values and a point, `expand` an element with n for an answer, `round` claim, h0, h2 and r.
+#![tactic(auto)]
+
 use argument::claim_after;
 use field::pair::Pair;
 use field::residue::Residue;

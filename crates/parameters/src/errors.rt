@@ -14,14 +14,14 @@ pub enum FoldingFactorError {
     // The folding factor cannot be zero.
     ZeroFactor,
 
-    // The explicit per_round folding factors fold too few variables to reach the direct-send threshold.
+    // The explicit per-round folding factors fold too few variables to reach the direct-send threshold.
     InsufficientFolding {
         num_variables: usize,
         remaining: usize,
         threshold: usize,
     },
 
-    // The explicit per_round schedule contains no folding factors.
+    // The explicit per-round schedule contains no folding factors.
     EmptySchedule,
 }
 

@@ -60,7 +60,7 @@ impl FoldingFactor {
     // Derive the concrete folding factors used before the final direct-send phase.
     //
     // Constant schedules may use a smaller final fold when fewer than `factor`
-    // variables remain. Explicit per_round schedules stay exact and therefore
+    // variables remain. Explicit per-round schedules stay exact and therefore
     // still reject any factor larger than the current remainder.
     pub fn compute_folding_schedule(
         &self,

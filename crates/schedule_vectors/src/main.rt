@@ -1,5 +1,7 @@
 // Replays a stored list of schedules: each line has a strategy, the number of variables and the answer that the original
 // implementation gave. It prints each line that is answered otherwise, and at the end how many lines were compared.
+#![tactic(auto)]
+
 use anyhow::anyhow;
 use parameters::errors::ScheduleError;
 use parameters::folding::FoldingFactor;

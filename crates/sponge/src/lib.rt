@@ -1,4 +1,6 @@
 //! Sponges, and the plays that calls on a sponge are held to.
+#![tactic(auto)]
+
 ghost use Rattle.std.specs.Prelude.{◌≡◌, ℕ, List};
 ghost use Rattle.sponge.specs.Play.{Rules, Play};
 ghost use Rattle.sponge.specs.Laws.{DecidedByChecks, Settled, LeftByTrail};

@@ -3,6 +3,8 @@
 //! state at the end are those of the line. Prints how much was replayed, and each line that disagrees;
 //! then the coefficients of the first element that a new sponge of each kind draws, which are the first
 //! words of the stored lines modulo the modulus.
+#![tactic(auto)]
+
 use field::pair::Pair;
 use field::residue::Residue;
 use field::{BaseField, ExtensionField, Field};

@@ -1,5 +1,5 @@
 //! The calls of one line, made on a new sponge and compared word by word.
-use hex::from_hex;
+use hexadecimal::from_hex;
 use sponge::Sponge;
 use sponge::archive::ArchiveSponge;
 use sponge::trial::TrialSponge;

@@ -1,2 +1,4 @@
 // Words of plain text.
+#![tactic(auto)]
+
 pub mod number;

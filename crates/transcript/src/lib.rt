@@ -1,4 +1,6 @@
 // The transcript of a WHIR run: its shape, the steps, the separator and the run itself.
+#![tactic(auto)]
+
 pub mod depths;
 pub mod failure;
 pub mod interaction;

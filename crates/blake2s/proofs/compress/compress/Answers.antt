@@ -8,7 +8,7 @@ use Rattle.blake2s.proofs.compress.compress.Goals as goal
 
 pub loop-i-preserved : goal.loop-i-preserved
 loop-i-preserved c =
-    let f = folded c.args.h.now c.ten-rounds-v.result in (
+    let f = folded c.args.h.now c.ten_rounds-v.result in (
       length-set _ _ _ ∙ c.loop-i.invariant.0,
       fill_by_more f c.loop-i.out c.loop-i.i 0 (omega (arith, c.loop-i.invariant.0)) c.loop-i.invariant.1,
     )
@@ -16,6 +16,6 @@ loop-i-preserved c =
 pub returns : goal.returns
 unfolding compressed
 returns c =
-    let f = folded c.args.h.now c.ten-rounds-v.result in
+    let f = folded c.args.h.now c.ten_rounds-v.result in
     fill_by_all f c.loop-i.out 8 0 c.loop-i.invariant.0 (λ k b. c.loop-i.invariant.1 k (omega arith))
-    ∙ ap (λ v. map (folded c.args.h.now v) (range_with_len 0 8)) (c.ten-rounds-v.ensures ∙ ap (rounds 10 c.args.m) c.work.ensures)
+    ∙ ap (λ v. map (folded c.args.h.now v) (range_with_len 0 8)) (c.ten_rounds-v.ensures ∙ ap (rounds 10 c.args.m) c.work.ensures)

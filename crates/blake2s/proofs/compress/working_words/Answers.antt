@@ -17,7 +17,7 @@ loop-r-init c = refl
 
 pub loop-r-preserved : goal.loop-r-preserved
 loop-r-preserved c =
-    more c.args.m c.work-v.result c.loop-r.v c.nth-round-next.result c.loop-r.r c.loop-r.invariant c.nth-round-next.ensures
+    more c.args.m c.work-v.result c.loop-r.v c.nth_round-next.result c.loop-r.r c.loop-r.invariant c.nth_round-next.ensures
 
 pub returns : goal.returns
 returns c =

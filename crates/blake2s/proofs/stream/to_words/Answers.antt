@@ -9,8 +9,8 @@ pub loop-i-preserved : goal.loop-i-preserved
 unfolding word_at
 loop-i-preserved c = (
   length-set _ _ _ ∙ c.loop-i.invariant.0,
-  fill_with_more (word_at c.args.bs.now) c.loop-i.m c.loop-i.i c.from-le-bytes.result (omega (arith, c.loop-i.invariant.0))
-      c.from-le-bytes.ensures c.loop-i.invariant.1,
+  fill_with_more (word_at c.args.bs.now) c.loop-i.m c.loop-i.i c.from_le_bytes.result (omega (arith, c.loop-i.invariant.0))
+      c.from_le_bytes.ensures c.loop-i.invariant.1,
 )
 
 pub returns : goal.returns

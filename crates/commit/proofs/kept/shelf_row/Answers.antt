@@ -15,4 +15,4 @@ pub returns : goal.returns
 returns g c =
     let l = c.args.values.now in
     let s = c.args.shelf in
-    c.part.ensures.part ∙ ap (take s.width) (start_is l s.start (c.args.index * s.width) (2 ^ 64 - 1) _ _ c.part.ensures.counted c.saturating-mul.ensures c.saturating-add-start.ensures)
+    c.part.ensures.part ∙ ap (take s.width) (start_is l s.start (c.args.index * s.width) (2 ^ 64 - 1) _ _ c.part.ensures.counted c.saturating_mul.ensures c.saturating_add-start.ensures)

@@ -2,8 +2,8 @@ use Rattle.std.proofs.Common.{◌≡◌, suc, ◌+◌, sym, ap, ◌∙◌, arith
 use Rattle.commit.proofs.Trees.{levels_few, levels_more, levels_bound}
 use Rattle.commit.proofs.merkle.levels.Goals as goal
 
-pub overflow-add-count : goal.overflow-add-count
-overflow-add-count c =
+pub overflow_add-count : goal.overflow_add-count
+overflow_add-count c =
     let more = levels_more c.loop-left.left c.loop-left-test.true in
     let most = levels_bound c.args.positions in
     search rules

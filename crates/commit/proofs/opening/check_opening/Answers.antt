@@ -7,7 +7,7 @@ returns g c =
     let s = c.args.scheme.now in
     let m = g.S.OpeningScheme.meaning s in
     let Commits = g.S.OpeningScheme.commits s in
-    let laws = c.laws-stand-laws.ensures in
+    let laws = c.laws_stand-laws.ensures in
     let answer = c.check.ensures in
     record {
       answer = answer;

@@ -8,8 +8,8 @@ pub loop-i-preserved : goal.loop-i-preserved
 loop-i-preserved c =
     let N = numbers_of c.args.numbers.now in
     let ks = c.args.schedule.now in (
-      c.saturating-sub-left.ensures ∙ left_more N ks c.loop-i.i c.loop-i.left c.loop-i.invariant.0 c.loop-i-test.true,
-      phases_more N ks c.loop-i.i (vec_items c.loop-i.phases) _ c.phase-at-phase.result c.loop-i.invariant.1
-          (c.phase-at-phase.ensures ∙ phase_there N ks c.loop-i.i c.loop-i.left _ _ c.loop-i.invariant.0 c.rate-before.ensures c.queries-of.ensures)
-          c.in-ok-push.ensures.items,
+      c.saturating_sub-left.ensures ∙ left_more N ks c.loop-i.i c.loop-i.left c.loop-i.invariant.0 c.loop-i-test.true,
+      phases_more N ks c.loop-i.i (vec_items c.loop-i.phases) _ c.phase_at-phase.result c.loop-i.invariant.1
+          (c.phase_at-phase.ensures ∙ phase_there N ks c.loop-i.i c.loop-i.left _ _ c.loop-i.invariant.0 c.rate_before.ensures c.queries_of.ensures)
+          c.in_ok-push.ensures.items,
     )

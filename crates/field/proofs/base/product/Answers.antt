@@ -4,8 +4,8 @@ use Rattle.field.proofs.Reductions.{high_small, product_up, product_down}
 use Rattle.field.proofs.base.product.Goals as goal
 use Rattle.field.proofs.base.product.Goals.{then-high-low, else-high-low}
 
-pub overflow-sub-value-else-high-low : goal.overflow-sub-value-else-high-low
-overflow-sub-value-else-high-low g c =
+pub overflow_sub-value-else-high-low : goal.overflow_sub-value-else-high-low
+overflow_sub-value-else-high-low g c =
     let h = high_small g.row.P c.args.x.value c.args.y.value c.requires c.args.x.below c.args.y.below in
     omega arith
 

@@ -10,8 +10,8 @@ loop-j-preserved g c =
     let count = g.met.E.ExtensionField.extends.count c.loop-j.y in
     let d = c.degree-degree.ensures in
     let l : c.loop-j.j < length (g.E.ExtensionField.extension.coefficients c.loop-j.y) = omega (arith, c.loop-j-test.true) in
-    read_more g.met.F.BaseField.numbered (co c.loop-j.y) (co c.with-coefficient-y.result) c.loop-j.j c.read-word.result c.in-Some.x c.args.bytes.now l
-    c.loop-j.invariant c.read-word.ensures.bytes c.in-Some.ensures c.with-coefficient-y.ensures
+    read_more g.met.F.BaseField.numbered (co c.loop-j.y) (co c.with_coefficient-y.result) c.loop-j.j c.read_word.result c.in-Some.x c.args.bytes.now l
+    c.loop-j.invariant c.read_word.ensures.bytes c.in-Some.ensures c.with_coefficient-y.ensures
 
 pub returns : goal.returns
 returns g c =

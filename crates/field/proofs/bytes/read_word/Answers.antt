@@ -9,8 +9,8 @@ returns c =
     let at = c.args.at in
     let places = four_reads bytes at c.requires in
     let b = λ (i : ℕ). get_or bytes i 0 in
-    let t = c.type-inv.bytes in
+    let t = c.type_inv.bytes in
     record {
-      number = c.from-le-bytes.ensures ∙ word_of (b at) (b (at + 1)) (b (at + 2)) (b (at + 3)) ∙ ap little_endian (sym places);
-      bytes = bytes_of c.from-le-bytes.result (b at) (b (at + 1)) (b (at + 2)) (b (at + 3)) (t at).fits (t (at + 1)).fits (t (at + 2)).fits (t (at + 3)).fits c.from-le-bytes.ensures ∙ sym places;
+      number = c.from_le_bytes.ensures ∙ word_of (b at) (b (at + 1)) (b (at + 2)) (b (at + 3)) ∙ ap little_endian (sym places);
+      bytes = bytes_of c.from_le_bytes.result (b at) (b (at + 1)) (b (at + 2)) (b (at + 3)) (t at).fits (t (at + 1)).fits (t (at + 2)).fits (t (at + 3)).fits c.from_le_bytes.ensures ∙ sym places;
     }

@@ -8,7 +8,7 @@ loop-j-preserved g c =
     let d = c.degree-degree.ensures in
     let l : c.loop-j.j < length (g.E.ExtensionField.extension.coefficients c.args.x) = omega (arith, c.loop-j-test.true) in
     write_more g.F.BaseField.numbering (g.E.ExtensionField.extension.coefficients c.args.x) g.F.Field.ops.zero c.coefficient.result c.loop-j.j c.number.result
-    c.loop-j.out c.args.out.now c.write-word.new.out l c.loop-j.invariant c.coefficient.ensures c.number.ensures c.write-word.ensures
+    c.loop-j.out c.args.out.now c.write_word.new.out l c.loop-j.invariant c.coefficient.ensures c.number.ensures c.write_word.ensures
 
 pub returns : goal.returns
 returns g c =

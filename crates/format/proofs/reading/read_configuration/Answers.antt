@@ -5,10 +5,10 @@ use Rattle.format.proofs.reading.read_configuration.Goals as goal
 
 pub returns-in-Ok : goal.returns-in-Ok
 returns-in-Ok c =
-    outcome_is c.args.text.now _ _ _ (c.as-bytes.ensures.value ∙ c.word.ensures) c.from-line-rest.ensures c.in-Ok.ensures.stands
+    outcome_is c.args.text.now _ _ _ (c.as_bytes.ensures.value ∙ c.word.ensures) c.from_line-rest.ensures c.in-Ok.ensures.stands
 
 pub returns-in-Err : goal.returns-in-Err
 returns-in-Err c =
     subst (λ e. Answers (Err e) c.args.text.now) (sym c.located.ensures)
-    (outcome_wrong c.args.text.now _ _ _ c.in-Err.fault (c.as-bytes.ensures.value ∙ c.word.ensures) c.from-line-rest.ensures
+    (outcome_wrong c.args.text.now _ _ _ c.in-Err.fault (c.as_bytes.ensures.value ∙ c.word.ensures) c.from_line-rest.ensures
     c.in-Err.ensures.stands)

@@ -15,8 +15,8 @@ loop-j-preserved g c =
     let F = g.F.Field.ops in
     let L = g.met.F.Field.lawful.ring in
     let len = length_orient F L c.args.order c.args.draws.now in
-    evaluate_more F L (orient c.args.order c.args.draws.now) c.loop-j.scratch c.bind-first.new.scratch c.loop-j.j c.loop-j.left c.coordinate.result _ _
-    (omega (arith, len)) c.coordinate.ensures c.bind-first.ensures c.loop-j.invariant
+    evaluate_more F L (orient c.args.order c.args.draws.now) c.loop-j.scratch c.bind_first.new.scratch c.loop-j.j c.loop-j.left c.coordinate.result _ _
+    (omega (arith, len)) c.coordinate.ensures c.bind_first.ensures c.loop-j.invariant
 
 pub returns : goal.returns
 returns g c =

@@ -4,4 +4,4 @@ use Rattle.multilinear.proofs.evaluation.position_at.Goals as goal
 
 pub returns : goal.returns
 unfolding orient position weighted
-returns g c = record { fits = c.weigh-table.ensures.fits; refuses = c.weigh-table.ensures.refuses }
+returns g c = record { fits = c.weigh_table.ensures.fits; refuses = c.weigh_table.ensures.refuses }

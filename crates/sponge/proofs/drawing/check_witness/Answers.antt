@@ -7,4 +7,4 @@ returns-then-bits-eq0 g c = nothing_ground _ _ c.if-bits-eq0.true
 
 pub returns : goal.returns
 returns g c =
-    ground c.args.bits c.args.witness _ c.if-bits-eq0.false (c.observe.ensures ∙ ap (g.S.Sponge.rules.after_observe _) c.to-le-bytes.ensures) c.draw-bits-drawn.ensures
+    ground c.args.bits c.args.witness _ c.if-bits-eq0.false (c.observe.ensures ∙ ap (g.S.Sponge.rules.after_observe _) c.to_le_bytes.ensures) c.draw_bits-drawn.ensures

@@ -7,7 +7,7 @@ loop-i-init g c = coefficients_begin g.F.BaseField.numbering g.E.ExtensionField.
 pub loop-i-preserved : goal.loop-i-preserved
 loop-i-preserved g c =
     coefficients_more g.F.BaseField.numbering g.E.ExtensionField.extension g.met.E.ExtensionField.extends c.loop-i.i _ c.loop-i.x c.degree-i-end.ensures c.loop-i.invariant
-    c.draw_base.result c.with-coefficient-x.result c.loop-i-test.true c.draw_base.ensures c.with-coefficient-x.ensures
+    c.draw_base.result c.with_coefficient-x.result c.loop-i-test.true c.draw_base.ensures c.with_coefficient-x.ensures
 
 pub returns : goal.returns
 returns g c =

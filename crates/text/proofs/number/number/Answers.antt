@@ -9,7 +9,7 @@ pub returns-then-byte-lt48 : goal.returns-then-byte-lt48
 returns-then-byte-lt48 c =
     let word = c.args.word.now in
     let none = not_a_number word c.loop-byte.byte-index c.loop-byte.value c.loop-byte.invariant c.loop-byte-test.true in
-    sym (ap (option_map (min largest)) (some_digits word (sym c.if-is-empty.ensures)
+    sym (ap (option_map (min largest)) (some_digits word (sym c.if-is_empty.ensures)
     ∙ elim c.then-byte-lt48.branch [
       | then-byte-lt48-via-then-byte-lt48 w ↦ none (low_character _ w.if-byte-lt48.true)
       | then-byte-lt48-via-else-byte-lt48+then-byte-gt57 w ↦ none (high_character _ w.if-byte-gt57.true)
@@ -17,11 +17,11 @@ returns-then-byte-lt48 c =
 
 pub loop-byte-preserved : goal.loop-byte-preserved
 loop-byte-preserved c =
-    reading_more c.args.word.now c.loop-byte.byte-index c.loop-byte.value c.saturating-mul.result c.saturating-add-value.result
-    c.loop-byte.invariant c.loop-byte-test.true c.if-byte-lt48.false c.if-byte-gt57.false c.saturating-mul.ensures
-    c.saturating-add-value.ensures
+    reading_more c.args.word.now c.loop-byte.byte-index c.loop-byte.value c.saturating_mul.result c.saturating_add-value.result
+    c.loop-byte.invariant c.loop-byte-test.true c.if-byte-lt48.false c.if-byte-gt57.false c.saturating_mul.ensures
+    c.saturating_add-value.ensures
 
 pub returns : goal.returns
 returns c =
     reading_all c.args.word.now c.loop-byte.byte-index c.loop-byte.value c.loop-byte.invariant c.loop-byte-test.false
-    ∙ ap (option_map (min largest)) (sym (some_digits c.args.word.now (sym c.if-is-empty.ensures)))
+    ∙ ap (option_map (min largest)) (sym (some_digits c.args.word.now (sym c.if-is_empty.ensures)))

@@ -8,5 +8,5 @@ pub returns : goal.returns
 returns g c =
     let m = g.S.Sponge.rules in
     taken_on m step_bytes _ _ _ (marker Begin c.args.label ∷ []) (marker End c.args.label ∷ [])
-    (taken_same m step_bytes _ _ _ _ c.observe-step.ensures c.marker.ensures)
-    (taken_same m step_bytes _ _ _ _ c.observe-step-2.ensures c.marker-2.ensures)
+    (taken_same m step_bytes _ _ _ _ c.observe_step.ensures c.marker.ensures)
+    (taken_same m step_bytes _ _ _ _ c.observe_step-2.ensures c.marker-2.ensures)

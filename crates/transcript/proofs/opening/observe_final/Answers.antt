@@ -8,14 +8,14 @@ use Rattle.transcript.proofs.opening.observe_final.Goals as goal
 
 pub returns-else-numbers-ne0 : goal.returns-else-numbers-ne0
 returns-else-numbers-ne0 g c = λ claims.
-    final_taken g.S.Sponge.rules _ _ _ _ _ (numbers_of c.args.config.now.numbers) c.args.degree c.final-poly-len-length.result c.len.result claims c.query-site-site.result
-    (c.len.ensures ∙ c.args.config.now.numbers.round_parameters.ok.0) c.query-site-site.ensures c.final-poly-len-length.ensures.value
-    (taken_same g.S.Sponge.rules step_bytes _ _ _ _ c.observe-step.ensures c.sent.ensures) c.observe-pow.ensures c.observe-indices.ensures
+    final_taken g.S.Sponge.rules _ _ _ _ _ (numbers_of c.args.config.now.numbers) c.args.degree c.final_poly_len-length.result c.len.result claims c.query_site-site.result
+    (c.len.ensures ∙ c.args.config.now.numbers.round_parameters.ok.0) c.query_site-site.ensures c.final_poly_len-length.ensures.value
+    (taken_same g.S.Sponge.rules step_bytes _ _ _ _ c.observe_step.ensures c.sent.ensures) c.observe_pow.ensures c.observe_indices.ensures
     (taken_nothing g.S.Sponge.rules step_bytes _ c.args.config.now.numbers.final_sumcheck_rounds (bracket FinalFold) c.if-numbers-ne0.false)
 
 pub returns-then-numbers-ne0 : goal.returns-then-numbers-ne0
 returns-then-numbers-ne0 g c = λ claims.
-    final_taken g.S.Sponge.rules _ _ _ _ _ (numbers_of c.args.config.now.numbers) c.args.degree c.final-poly-len-length.result c.len.result claims c.query-site-site.result
-    (c.len.ensures ∙ c.args.config.now.numbers.round_parameters.ok.0) c.query-site-site.ensures c.final-poly-len-length.ensures.value
-    (taken_same g.S.Sponge.rules step_bytes _ _ _ _ c.observe-step.ensures c.sent.ensures) c.observe-pow.ensures c.observe-indices.ensures
-    (taken_something g.S.Sponge.rules step_bytes _ _ c.args.config.now.numbers.final_sumcheck_rounds (bracket FinalFold) c.if-numbers-ne0.true c.observe-bracket.ensures)
+    final_taken g.S.Sponge.rules _ _ _ _ _ (numbers_of c.args.config.now.numbers) c.args.degree c.final_poly_len-length.result c.len.result claims c.query_site-site.result
+    (c.len.ensures ∙ c.args.config.now.numbers.round_parameters.ok.0) c.query_site-site.ensures c.final_poly_len-length.ensures.value
+    (taken_same g.S.Sponge.rules step_bytes _ _ _ _ c.observe_step.ensures c.sent.ensures) c.observe_pow.ensures c.observe_indices.ensures
+    (taken_something g.S.Sponge.rules step_bytes _ _ c.args.config.now.numbers.final_sumcheck_rounds (bracket FinalFold) c.if-numbers-ne0.true c.observe_bracket.ensures)

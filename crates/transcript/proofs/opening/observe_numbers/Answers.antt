@@ -8,7 +8,7 @@ use Rattle.transcript.proofs.opening.observe_numbers.Goals as goal
 pub loop-number-preserved : goal.loop-number-preserved
 loop-number-preserved g c =
     number_taken g.S.Sponge.rules _ _ _ c.args.numbers.now c.loop-number.number-index _ _ c.loop-number-test.true c.loop-number.invariant c.observe.ensures
-    (c.as-slice.ensures ∙ c.instance-piece.ensures) (c.to-be-bytes.ensures ∙ eight_bytes _)
+    (c.as_slice.ensures ∙ c.instance-piece.ensures) (c.to_be_bytes.ensures ∙ eight_bytes _)
 
 pub loop-number-init : goal.loop-number-init
 loop-number-init g c = taken_none g.S.Sponge.rules instance_bytes _

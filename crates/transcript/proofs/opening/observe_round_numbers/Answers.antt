@@ -16,10 +16,10 @@ pub loop-round-preserved : goal.loop-round-preserved
 loop-round-preserved g c =
     let short : c.loop-round.round < length (vec_items c.args.config.now.numbers.round_parameters) =
     omega (arith, c.loop-round-test.true, c.len-round-end.ensures, c.args.config.now.numbers.round_parameters.ok.0) in
-    round_numbers_taken g.S.Sponge.rules _ _ _ (numbers_of c.args.config.now.numbers) c.loop-round.round c.rate-before-rate.result c.factor_of.result _
-    c.rate-before-rate.ensures c.factor_of.ensures.value
+    round_numbers_taken g.S.Sponge.rules _ _ _ (numbers_of c.args.config.now.numbers) c.loop-round.round c.rate_before-rate.result c.factor_of.result _
+    c.rate_before-rate.ensures c.factor_of.ensures.value
     (ap (λ (r : RoundConfig). r.folding_pow_bits) (get_or_read (vec_items c.args.config.now.numbers.round_parameters) c.loop-round.round c.index.result.now short c.index.ensures no_round))
-    c.loop-round.invariant c.observe-numbers.ensures
+    c.loop-round.invariant c.observe_numbers.ensures
 
 pub loop-round-init : goal.loop-round-init
 loop-round-init g c = taken_none g.S.Sponge.rules instance_bytes _

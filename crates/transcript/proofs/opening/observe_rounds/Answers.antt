@@ -13,7 +13,7 @@ pub loop-round-preserved : goal.loop-round-preserved
 loop-round-preserved g c =
     taken_as g.S.Sponge.rules step_bytes _ _ _ _
     (taken_on g.S.Sponge.rules step_bytes _ _ _ (flat_map (round_steps c.args.degree) (map (round_shape (numbers_of c.args.config.now.numbers)) (counted 0 c.loop-round.round)))
-    (round_steps c.args.degree (round_shape (numbers_of c.args.config.now.numbers) c.loop-round.round)) c.loop-round.invariant c.observe-round.ensures)
+    (round_steps c.args.degree (round_shape (numbers_of c.args.config.now.numbers) c.loop-round.round)) c.loop-round.invariant c.observe_round.ensures)
     (joined_push (round_steps c.args.degree) (round_shape (numbers_of c.args.config.now.numbers)) c.loop-round.round)
 
 pub loop-round-init : goal.loop-round-init

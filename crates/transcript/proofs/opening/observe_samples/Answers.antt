@@ -12,8 +12,8 @@ loop-i-preserved g c =
     taken_as g.S.Sponge.rules step_bytes _ _ _ _
     (taken_on g.S.Sponge.rules step_bytes _ _ _ (sample_steps c.args.degree c.loop-i.-i) (drawn_step c.args.degree OodPoint ∷ sent_step c.args.degree 0 OodAnswer ∷ []) c.loop-i.invariant
     (taken_on g.S.Sponge.rules step_bytes _ _ _ (drawn_step c.args.degree OodPoint ∷ []) (sent_step c.args.degree 0 OodAnswer ∷ [])
-    (taken_same g.S.Sponge.rules step_bytes _ _ _ _ c.observe-step.ensures c.drawn.ensures)
-    (taken_same g.S.Sponge.rules step_bytes _ _ _ _ c.observe-step-in-loop-i.ensures c.sent.ensures)))
+    (taken_same g.S.Sponge.rules step_bytes _ _ _ _ c.observe_step.ensures c.drawn.ensures)
+    (taken_same g.S.Sponge.rules step_bytes _ _ _ _ c.observe_step-in-loop-i.ensures c.sent.ensures)))
     (samples_push c.args.degree c.loop-i.-i)
 
 pub loop-i-init : goal.loop-i-init

@@ -11,7 +11,7 @@ use Rattle.transcript.proofs.opening.observe_separator.Goals as goal
 pub returns : goal.returns
 unfolding separator
 returns g c =
-    opened g.S.Sponge.rules _ _ _ _ _ (pattern c.args.degree (shape (numbers_of c.args.config.now.numbers) c.args.num-opening-claims))
-    (instances (shape (numbers_of c.args.config.now.numbers) c.args.num-opening-claims)) c.observe.ensures c.observe-2.ensures
-    (steps_taken g.S.Sponge.rules _ _ _ _ (numbers_of c.args.config.now.numbers) c.args.degree c.args.num-opening-claims c.observe-bracket.ensures c.observe-rounds.ensures
-    (c.observe-final.ensures c.args.num-opening-claims)) c.observe-instances.ensures
+    opened g.S.Sponge.rules _ _ _ _ _ (pattern c.args.degree (shape (numbers_of c.args.config.now.numbers) c.args.num_opening_claims))
+    (instances (shape (numbers_of c.args.config.now.numbers) c.args.num_opening_claims)) c.observe.ensures c.observe-2.ensures
+    (steps_taken g.S.Sponge.rules _ _ _ _ (numbers_of c.args.config.now.numbers) c.args.degree c.args.num_opening_claims c.observe_bracket.ensures c.observe_rounds.ensures
+    (c.observe_final.ensures c.args.num_opening_claims)) c.observe_instances.ensures

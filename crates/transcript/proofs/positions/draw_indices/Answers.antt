@@ -6,8 +6,8 @@ loop-i-init g c = filling_begins g.S.Sponge.rules _ c.args.bits c.args.stride c.
 
 pub loop-i-preserved : goal.loop-i-preserved
 loop-i-preserved g c =
-    filling_more g.S.Sponge.rules _ _ _ c.args.bits c.args.stride c.args.count c.loop-i.i c.args.from c.draw-bits-low.result c.args.out.now c.loop-i.out
-    c.loop-i-test.true c.requires.0 c.loop-i.invariant c.draw-bits-low.ensures
+    filling_more g.S.Sponge.rules _ _ _ c.args.bits c.args.stride c.args.count c.loop-i.i c.args.from c.draw_bits-low.result c.args.out.now c.loop-i.out
+    c.loop-i-test.true c.requires.0 c.loop-i.invariant c.draw_bits-low.ensures
 
 pub returns : goal.returns
 returns g c =

@@ -6,5 +6,5 @@ use Rattle.transcript.proofs.sites.factor_of.Goals as goal
 
 pub returns : goal.returns
 returns c =
-    let there = c.unwrap-or.ensures ∙ ap (λ o. unwrap_or o 0) c.round-folding-factor.ensures ∙ value_nth (vec_items c.args.config.now.numbers.folding_schedule) c.args.phase in
-    record { value = there; small = factor_small (numbers_of c.args.config.now.numbers) c.args.phase c.unwrap-or.result c.args.config.now.checked there }
+    let there = c.unwrap_or.ensures ∙ ap (λ o. unwrap_or o 0) c.round_folding_factor.ensures ∙ value_nth (vec_items c.args.config.now.numbers.folding_schedule) c.args.phase in
+    record { value = there; small = factor_small (numbers_of c.args.config.now.numbers) c.args.phase c.unwrap_or.result c.args.config.now.checked there }

@@ -3,8 +3,8 @@ use Rattle.configuration.specs.Numbers.{numbers_of}
 use Rattle.transcript.proofs.Siting.{final_small, shifted}
 use Rattle.transcript.proofs.sites.final_poly_len.Goals as goal
 
-pub overflow-shl-result : goal.overflow-shl-result
-overflow-shl-result c =
+pub overflow_shl-result : goal.overflow_shl-result
+overflow_shl-result c =
     let small = final_small (numbers_of c.args.config.now.numbers) c.args.config.now.checked in omega (arith, small)
 
 pub returns : goal.returns

@@ -5,7 +5,7 @@ use Rattle.transcript.proofs.sites.index_bits.Goals as goal
 
 pub returns : goal.returns
 returns c =
-    let h = width_of (numbers_of c.args.config.now.numbers) c.args.phase c.total-folded-through-folded.result c.saturating-sub-left.result
-    c.saturating-add.result c.args.config.now.checked c.requires c.total-folded-through-folded.ensures c.saturating-sub-left.ensures
-    (c.saturating-add.ensures ∙ ap (λ e. min (c.saturating-sub-left.result + e) 18446744073709551615) c.rate-before.ensures) in
+    let h = width_of (numbers_of c.args.config.now.numbers) c.args.phase c.total_folded_through-folded.result c.saturating_sub-left.result
+    c.saturating_add.result c.args.config.now.checked c.requires c.total_folded_through-folded.ensures c.saturating_sub-left.ensures
+    (c.saturating_add.ensures ∙ ap (λ e. min (c.saturating_sub-left.result + e) 18446744073709551615) c.rate_before.ensures) in
     record { value = h.0; small = h.1 }

@@ -3,5 +3,5 @@ use Rattle.blake2s.proofs.state.Hasher.finish.Goals as goal
 
 pub returns : goal.returns
 returns c =
-    finished c.args.self c.pad-block.result c.to-words.result c.compress.new.h c.to-bytes.result c.pad-block.ensures
-    c.to-words.ensures c.compress.ensures c.to-bytes.ensures
+    finished c.args.self c.pad-block.result c.to_words.result c.compress.new.h c.to_bytes.result c.pad-block.ensures
+    c.to_words.ensures c.compress.ensures c.to_bytes.ensures

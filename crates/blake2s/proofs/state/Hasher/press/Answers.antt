@@ -7,7 +7,7 @@ pub returns : goal.returns
 returns c =
     let s = c.args.self.now in
     record {
-      state = c.compress.ensures ∙ ap (λ m. compressed s.h m (counter (s.count + 64)) false) c.to-words.ensures;
+      state = c.compress.ensures ∙ ap (λ m. compressed s.h m (counter (s.count + 64)) false) c.to_words.ensures;
       counted = refl;
       emptied = refl;
     }

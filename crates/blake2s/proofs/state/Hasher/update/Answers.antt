@@ -12,13 +12,13 @@ loop-done-preserved c =
     let done = c.loop-done.done in
     let rest = take (length piece - done) (drop done piece) in
     let is : rest ≡ drop done piece = take_rest piece done in
-    let t = c.take-some-done.ensures in
+    let t = c.take_some-done.ensures in
     let long : length rest ≡ length piece - done = ap length is ∙ length-drop done piece in
-    let within : done + c.take-some-done.result ≤ length piece = omega (arith, t.within, long, c.loop-done-test.true) in (
+    let within : done + c.take_some-done.result ≤ length piece = omega (arith, t.within, long, c.loop-done-test.true) in (
       within,
       λ xs a.
-          updated c.loop-done.self c.make-room.new.self c.take-some-done.new.self piece rest done c.take-some-done.result
-          c.loop-done-test.true is c.make-room.ensures.keeps t xs (c.loop-done.invariant.1 xs a),
+          updated c.loop-done.self c.make_room.new.self c.take_some-done.new.self piece rest done c.take_some-done.result
+          c.loop-done-test.true is c.make_room.ensures.keeps t xs (c.loop-done.invariant.1 xs a),
     )
 
 pub returns : goal.returns

@@ -20,7 +20,7 @@ returns g c =
     let p = c.args.positions in
     let k = c.loop-k.k in
     all_three (eqb (length rows) (length is * w)) (eqb (length paths) (length is * 0)) (rows_right m number w p is rows paths) true
-    (sym c.if-not-count-is.ensures)
+    (sym c.if-not-count_is.ensures)
     (eq-eqb (length paths) (length is * 0) (c.if-paths-ne0.false ∙ sym (mul-zero (length is))))
     (rows_all m number w p 0 is rows paths k _ c.loop-k-test.false c.loop-k.invariant)
 
@@ -37,7 +37,7 @@ loop-k-preserved g c =
     let number = c.args.commitment.now in
     let p = c.args.positions in
     let k = c.loop-k.k in
-    let long = piece_long rows (length is) k w (eqb-true (length rows) (length is * w) (sym c.if-not-count-is.ensures)) c.loop-k-test.true in
+    let long = piece_long rows (length is) k w (eqb-true (length rows) (length is * w) (sym c.if-not-count_is.ensures)) c.loop-k-test.true in
     let right = shelf_right n values shelves number w p (get_or is k 0) (piece rows w k) c.stands.result true long c.stands.ensures c.if-not-stands.false in
     rows_more m number w p 0 is rows paths k _ refl c.loop-k-test.true right c.loop-k.invariant
 
@@ -54,9 +54,9 @@ returns-then-not-stands g c =
     let number = c.args.commitment.now in
     let p = c.args.positions in
     let k = c.loop-k.k in
-    let long = piece_long rows (length is) k w (eqb-true (length rows) (length is * w) (sym c.if-not-count-is.ensures)) c.loop-k-test.true in
+    let long = piece_long rows (length is) k w (eqb-true (length rows) (length is * w) (sym c.if-not-count_is.ensures)) c.loop-k-test.true in
     let wrong = shelf_right n values shelves number w p (get_or is k 0) (piece rows w k) c.stands.result false long c.stands.ensures c.if-not-stands.true in
     all_three (eqb (length rows) (length is * w)) (eqb (length paths) (length is * 0)) (rows_right m number w p is rows paths) false
-    (sym c.if-not-count-is.ensures)
+    (sym c.if-not-count_is.ensures)
     (eq-eqb (length paths) (length is * 0) (c.if-paths-ne0.false ∙ sym (mul-zero (length is))))
     (rows_wrong m number w p 0 is rows paths k _ refl c.loop-k-test.true wrong c.loop-k.invariant)

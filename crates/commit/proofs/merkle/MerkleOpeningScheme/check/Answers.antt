@@ -19,7 +19,7 @@ returns g c =
     let height = c.levels-height.result in
     let k = c.loop-k.k in
     all_three (eqb (length rows) (length is * w)) (eqb (length paths) (length is * m.path_length p)) (rows_right m root w p is rows paths) true
-    (sym c.if-not-count-is.ensures)
+    (sym c.if-not-count_is.ensures)
     (ap (λ q. eqb (length paths) (length is * q)) (sym c.levels-height.ensures) ∙ sym c.if-not-fits.ensures)
     (rows_all m root w p height is rows paths k _ c.loop-k-test.false c.loop-k.invariant)
 
@@ -35,7 +35,7 @@ loop-k-preserved g c =
     let p = c.args.positions in
     let height = c.levels-height.result in
     let k = c.loop-k.k in
-    let long = piece_long rows (length is) k w (eqb-true (length rows) (length is * w) (sym c.if-not-count-is.ensures)) c.loop-k-test.true in
+    let long = piece_long rows (length is) k w (eqb-true (length rows) (length is * w) (sym c.if-not-count_is.ensures)) c.loop-k-test.true in
     let right = tree_right n root w p (get_or is k 0) (piece rows w k) c.leaf-digest.result (piece paths height k) c.piece-path.result.now c.climbs.result true long c.leaf-digest.ensures c.piece-path.ensures c.climbs.ensures c.if-not-climbs.false in
     rows_more m root w p height is rows paths k _ c.levels-height.ensures c.loop-k-test.true right c.loop-k.invariant
 
@@ -51,9 +51,9 @@ returns-then-not-climbs g c =
     let p = c.args.positions in
     let height = c.levels-height.result in
     let k = c.loop-k.k in
-    let long = piece_long rows (length is) k w (eqb-true (length rows) (length is * w) (sym c.if-not-count-is.ensures)) c.loop-k-test.true in
+    let long = piece_long rows (length is) k w (eqb-true (length rows) (length is * w) (sym c.if-not-count_is.ensures)) c.loop-k-test.true in
     let wrong = tree_right n root w p (get_or is k 0) (piece rows w k) c.leaf-digest.result (piece paths height k) c.piece-path.result.now c.climbs.result false long c.leaf-digest.ensures c.piece-path.ensures c.climbs.ensures c.if-not-climbs.true in
     all_three (eqb (length rows) (length is * w)) (eqb (length paths) (length is * m.path_length p)) (rows_right m root w p is rows paths) false
-    (sym c.if-not-count-is.ensures)
+    (sym c.if-not-count_is.ensures)
     (ap (λ q. eqb (length paths) (length is * q)) (sym c.levels-height.ensures) ∙ sym c.if-not-fits.ensures)
     (rows_wrong m root w p height is rows paths k _ c.levels-height.ensures c.loop-k-test.true wrong c.loop-k.invariant)

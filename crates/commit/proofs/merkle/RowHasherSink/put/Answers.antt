@@ -18,5 +18,5 @@ taken n xs x bs word k ek ew =
 pub returns : goal.returns
 returns g c = λ s xs h bs a.
     subst (λ (l : List ℕ). Absorbed c.update.new.self l)
-    (taken g.F.BaseField.numbering xs c.args.element bs c.to-le-bytes.result c.number.result c.number.ensures c.to-le-bytes.ensures)
+    (taken g.F.BaseField.numbering xs c.args.element bs c.to_le_bytes.result c.number.result c.number.ensures c.to_le_bytes.ensures)
     (c.update.ensures _ (h bs a))

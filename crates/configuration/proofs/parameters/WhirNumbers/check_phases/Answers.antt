@@ -5,8 +5,8 @@ use Rattle.configuration.proofs.Phased.{parts}
 use Rattle.configuration.proofs.Faults.{phases_inconsistent, phases_limit, phases_fine}
 use Rattle.configuration.proofs.parameters.WhirNumbers.check_phases.Goals as goal
 
-pub openings-within-requires : goal.openings-within-requires
-openings-within-requires c =
+pub openings_within-requires : goal.openings_within-requires
+openings_within-requires c =
     let N = numbers_of c.args.self.now in
     let ks = c.args.schedule.now in
-    domains_small N ks c.requires (parts N ks (sym c.if-not-is-consistent.ensures)).fitting
+    domains_small N ks c.requires (parts N ks (sym c.if-not-is_consistent.ensures)).fitting

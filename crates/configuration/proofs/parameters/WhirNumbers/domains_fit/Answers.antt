@@ -14,9 +14,9 @@ pub returns-then-rate-self : goal.returns-then-rate-self
 returns-then-rate-self c =
     let N = numbers_of c.args.self.now in
     let ks = c.args.schedule.now in
-    let stop : N.capacity < c.loop-i.left + c.rate-before-rate.result → false ≡ every (length ks) (domain_fits N ks) =
+    let stop : N.capacity < c.loop-i.left + c.rate_before-rate.result → false ≡ every (length ks) (domain_fits N ks) =
     λ low. sym (every_stop (domain_fits N ks) _ c.loop-i.i c.loop-i-test.true
-    (too_wide N ks c.loop-i.i c.loop-i.left c.rate-before-rate.result c.loop-i.invariant.0 c.rate-before-rate.ensures low)) in
+    (too_wide N ks c.loop-i.i c.loop-i.left c.rate_before-rate.result c.loop-i.invariant.0 c.rate_before-rate.ensures low)) in
     elim c.then-rate-self.branch [
       | then-rate-self-via-then-rate-self w ↦ stop (omega (arith, w.if-rate-self.true))
       | then-rate-self-via-else-rate-self+then-left-self w ↦ stop (omega (arith, w.if-rate-self.false, w.if-left-self.true))
@@ -26,8 +26,8 @@ pub loop-i-preserved : goal.loop-i-preserved
 loop-i-preserved c =
     let N = numbers_of c.args.self.now in
     let ks = c.args.schedule.now in (
-      c.saturating-sub-left.ensures ∙ left_more N ks c.loop-i.i c.loop-i.left c.loop-i.invariant.0 c.loop-i-test.true,
+      c.saturating_sub-left.ensures ∙ left_more N ks c.loop-i.i c.loop-i.left c.loop-i.invariant.0 c.loop-i-test.true,
       every_more (domain_fits N ks) c.loop-i.i c.loop-i.invariant.1
-          (fits_so N ks c.loop-i.i c.loop-i.left c.rate-before-rate.result c.loop-i.invariant.0 c.rate-before-rate.ensures
+          (fits_so N ks c.loop-i.i c.loop-i.left c.rate_before-rate.result c.loop-i.invariant.0 c.rate_before-rate.ensures
           (omega (arith, c.if-rate-self.false, c.if-left-self.false))),
     )

@@ -16,7 +16,7 @@ returns-then-not-agrees c =
     let short : c.loop-i.i < length (vec_items c.args.self.now.round_parameters) =
     omega (arith, c.loop-i-test.true, c.len-i-end.ensures, c.args.self.now.round_parameters.ok.0) in
     sym (every_stop (phase_agrees N ks) _ c.loop-i.i short
-    (sym (agrees_there N ks c.loop-i.i c.loop-i.left c.rate-before.result c.index.result.now c.loop-i.invariant.0 c.rate-before.ensures
+    (sym (agrees_there N ks c.loop-i.i c.loop-i.left c.rate_before.result c.index.result.now c.loop-i.invariant.0 c.rate_before.ensures
     short c.index.ensures) ∙ sym c.if-not-agrees.ensures))
 
 pub loop-i-preserved : goal.loop-i-preserved
@@ -26,9 +26,9 @@ loop-i-preserved c =
     let short : c.loop-i.i < length (vec_items c.args.self.now.round_parameters) =
     omega (arith, c.loop-i-test.true, c.len-i-end.ensures, c.args.self.now.round_parameters.ok.0) in
     let within : c.loop-i.i < length ks = omega (arith, c.requires.0) in (
-      c.saturating-sub-left.ensures ∙ left_more N ks c.loop-i.i c.loop-i.left c.loop-i.invariant.0 within,
+      c.saturating_sub-left.ensures ∙ left_more N ks c.loop-i.i c.loop-i.left c.loop-i.invariant.0 within,
       every_more (phase_agrees N ks) c.loop-i.i c.loop-i.invariant.1
-          (sym (agrees_there N ks c.loop-i.i c.loop-i.left c.rate-before.result c.index.result.now c.loop-i.invariant.0 c.rate-before.ensures
+          (sym (agrees_there N ks c.loop-i.i c.loop-i.left c.rate_before.result c.index.result.now c.loop-i.invariant.0 c.rate_before.ensures
           short c.index.ensures) ∙ sym c.if-not-agrees.ensures),
     )
 

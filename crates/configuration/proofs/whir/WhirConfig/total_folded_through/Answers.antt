@@ -5,7 +5,7 @@ use Rattle.configuration.proofs.whir.WhirConfig.total_folded_through.Goals as go
 
 pub returns : goal.returns
 returns c =
-    c.saturating-sub.ensures
-    ∙ folded_through (numbers_of c.args.self.now.numbers) c.args.round c.saturating-add.result c.variables-before-left.result
-    c.args.self.now.checked c.saturating-add.ensures
-    (c.variables-before-left.ensures ∙ ap (λ l. c.args.self.now.numbers.num_variables - sum (take c.saturating-add.result l)) c.as-slice.ensures.value)
+    c.saturating_sub.ensures
+    ∙ folded_through (numbers_of c.args.self.now.numbers) c.args.round c.saturating_add.result c.variables_before-left.result
+    c.args.self.now.checked c.saturating_add.ensures
+    (c.variables_before-left.ensures ∙ ap (λ l. c.args.self.now.numbers.num_variables - sum (take c.saturating_add.result l)) c.as_slice.ensures.value)

@@ -23,10 +23,10 @@ listed_coordinate F l c log m index j x r e h is made =
 pub element-requires : goal.element-requires
 element-requires g c =
     let d = c.args.self.now in
-    listed_index d.log c.args.log-domain-size c.args.num-variables c.args.index (length d.points.now) d.size c.if-not-is-inside.ensures
+    listed_index d.log c.args.log_domain_size c.args.num_variables c.args.index (length d.points.now) d.size c.if-not-is_inside.ensures
 
 pub returns : goal.returns
 returns g c =
     let d = c.args.self.now in
-    listed_coordinate g.F.Field.ops d.points.now d.log c.args.log-domain-size c.args.num-variables c.args.index c.args.j c.element.result
-    c.coordinate-of.result c.if-not-is-inside.ensures c.if-j-num-variables.false c.element.ensures c.coordinate-of.ensures
+    listed_coordinate g.F.Field.ops d.points.now d.log c.args.log_domain_size c.args.num_variables c.args.index c.args.j c.element.result
+    c.coordinate_of.result c.if-not-is_inside.ensures c.if-j-num_variables.false c.element.ensures c.coordinate_of.ensures

@@ -4,18 +4,18 @@ use Rattle.format.specs.Lines.{terminal_of}
 use Rattle.format.proofs.Chains.{follows, breaks}
 use Rattle.format.proofs.cursor.Cursor.budget.Goals as goal
 
-pub returns-in-err-num-queries : goal.returns-in-err-num-queries
+pub returns-in_err-num_queries : goal.returns-in_err-num_queries
 unfolding terminal_of
-returns-in-err-num-queries c =
-    let p = err_from_is_err_and c.from-residual.result c.from-residual.ensures.1 in
-    rw (p.1, p.2) (breaks _ c.in-err-num-queries.ensures)
+returns-in_err-num_queries c =
+    let p = err_from_is_err_and c.from_residual.result c.from_residual.ensures.1 in
+    rw (p.1, p.2) (breaks _ c.in_err-num_queries.ensures)
 
-pub returns-in-err-pow-bits : goal.returns-in-err-pow-bits
+pub returns-in_err-pow_bits : goal.returns-in_err-pow_bits
 unfolding terminal_of
-returns-in-err-pow-bits c =
-    let p = err_from_is_err_and c.from-residual-in-err-pow-bits.result c.from-residual-in-err-pow-bits.ensures.1 in
-    rw (p.1, p.2) (follows _ c.in-ok-num-queries.ensures (breaks _ c.in-err-pow-bits.ensures))
+returns-in_err-pow_bits c =
+    let p = err_from_is_err_and c.from_residual-in_err-pow_bits.result c.from_residual-in_err-pow_bits.ensures.1 in
+    rw (p.1, p.2) (follows _ c.in_ok-num_queries.ensures (breaks _ c.in_err-pow_bits.ensures))
 
 pub returns : goal.returns
 unfolding terminal_of
-returns c = (follows _ c.in-ok-num-queries.ensures (follows _ c.in-ok-pow-bits.ensures (record { stands = refl })))
+returns c = (follows _ c.in_ok-num_queries.ensures (follows _ c.in_ok-pow_bits.ensures (record { stands = refl })))

@@ -5,16 +5,16 @@ use Rattle.format.specs.Lines.{byte_item}
 use Rattle.format.proofs.Chains.{follows, breaks}
 use Rattle.format.proofs.cursor.Cursor.byte.Goals as goal
 
-pub returns-in-err-number : goal.returns-in-err-number
+pub returns-in_err-number : goal.returns-in_err-number
 unfolding byte_item
-returns-in-err-number c =
-    let p = err_from_is_err_and c.from-residual.result c.from-residual.ensures.1 in
-    rw (p.1, p.2) (breaks _ c.in-err-number.ensures)
+returns-in_err-number c =
+    let p = err_from_is_err_and c.from_residual.result c.from_residual.ensures.1 in
+    rw (p.1, p.2) (breaks _ c.in_err-number.ensures)
 
 pub returns-then-number-ge256 : goal.returns-then-number-ge256
 unfolding byte_item
-returns-then-number-ge256 c = follows _ c.in-ok-number.ensures (record { stands = cond-false (ltb c.in-ok-number.number 256) _ _ (le-ltb _ _ c.if-number-ge256.true) })
+returns-then-number-ge256 c = follows _ c.in_ok-number.ensures (record { stands = cond-false (ltb c.in_ok-number.number 256) _ _ (le-ltb _ _ c.if-number-ge256.true) })
 
 pub returns : goal.returns
 unfolding byte_item
-returns c = follows _ c.in-ok-number.ensures (record { stands = cond-true (ltb c.in-ok-number.number 256) _ _ (lt-ltb _ _ c.if-number-ge256.false) })
+returns c = follows _ c.in_ok-number.ensures (record { stands = cond-true (ltb c.in_ok-number.number 256) _ _ (lt-ltb _ _ c.if-number-ge256.false) })

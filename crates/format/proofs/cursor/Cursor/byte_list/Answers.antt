@@ -4,12 +4,12 @@ use Rattle.format.specs.Lines.{byte_list}
 use Rattle.format.proofs.Chains.{follows, breaks}
 use Rattle.format.proofs.cursor.Cursor.byte_list.Goals as goal
 
-pub returns-in-err-count : goal.returns-in-err-count
+pub returns-in_err-count : goal.returns-in_err-count
 unfolding byte_list
-returns-in-err-count c =
-    let p = err_from_is_err_and c.from-residual.result c.from-residual.ensures.1 in
-    rw (p.1, p.2) (breaks _ c.in-err-count.ensures)
+returns-in_err-count c =
+    let p = err_from_is_err_and c.from_residual.result c.from_residual.ensures.1 in
+    rw (p.1, p.2) (breaks _ c.in_err-count.ensures)
 
 pub returns : goal.returns
 unfolding byte_list
-returns c = (follows _ c.in-ok-count.ensures c.bytes.ensures)
+returns c = (follows _ c.in_ok-count.ensures c.bytes.ensures)

@@ -4,30 +4,30 @@ use Rattle.format.specs.Configurations.{domain_part}
 use Rattle.format.proofs.Chains.{follows, breaks}
 use Rattle.format.proofs.cursor.Cursor.domain_lines.Goals as goal
 
-pub returns-in-err-num-variables : goal.returns-in-err-num-variables
+pub returns-in_err-num_variables : goal.returns-in_err-num_variables
 unfolding domain_part
-returns-in-err-num-variables c =
-    let p = err_from_is_err_and c.from-residual.result c.from-residual.ensures.1 in
-    rw (p.1, p.2) (breaks _ c.in-err-num-variables.ensures)
+returns-in_err-num_variables c =
+    let p = err_from_is_err_and c.from_residual.result c.from_residual.ensures.1 in
+    rw (p.1, p.2) (breaks _ c.in_err-num_variables.ensures)
 
-pub returns-in-err-max-log-domain-size : goal.returns-in-err-max-log-domain-size
+pub returns-in_err-max_log_domain_size : goal.returns-in_err-max_log_domain_size
 unfolding domain_part
-returns-in-err-max-log-domain-size c =
-    let p = err_from_is_err_and c.from-residual-in-err-max-log-domain-size.result c.from-residual-in-err-max-log-domain-size.ensures.1 in
-    rw (p.1, p.2) (follows _ c.in-ok-num-variables.ensures (breaks _ c.in-err-max-log-domain-size.ensures))
+returns-in_err-max_log_domain_size c =
+    let p = err_from_is_err_and c.from_residual-in_err-max_log_domain_size.result c.from_residual-in_err-max_log_domain_size.ensures.1 in
+    rw (p.1, p.2) (follows _ c.in_ok-num_variables.ensures (breaks _ c.in_err-max_log_domain_size.ensures))
 
-pub returns-in-err-domain-id : goal.returns-in-err-domain-id
+pub returns-in_err-domain_id : goal.returns-in_err-domain_id
 unfolding domain_part
-returns-in-err-domain-id c =
-    let p = err_from_is_err_and c.from-residual-in-err-domain-id.result c.from-residual-in-err-domain-id.ensures.1 in
-    rw (p.1, p.2) (follows _ c.in-ok-num-variables.ensures (follows _ c.in-ok-max-log-domain-size.ensures (breaks _ c.in-err-domain-id.ensures)))
+returns-in_err-domain_id c =
+    let p = err_from_is_err_and c.from_residual-in_err-domain_id.result c.from_residual-in_err-domain_id.ensures.1 in
+    rw (p.1, p.2) (follows _ c.in_ok-num_variables.ensures (follows _ c.in_ok-max_log_domain_size.ensures (breaks _ c.in_err-domain_id.ensures)))
 
-pub returns-in-err-stratified-queries : goal.returns-in-err-stratified-queries
+pub returns-in_err-stratified_queries : goal.returns-in_err-stratified_queries
 unfolding domain_part
-returns-in-err-stratified-queries c =
-    let p = err_from_is_err_and c.from-residual-in-err-stratified-queries.result c.from-residual-in-err-stratified-queries.ensures.1 in
-    rw (p.1, p.2) (follows _ c.in-ok-num-variables.ensures (follows _ c.in-ok-max-log-domain-size.ensures (follows _ c.in-ok-domain-id.ensures (breaks _ c.in-err-stratified-queries.ensures))))
+returns-in_err-stratified_queries c =
+    let p = err_from_is_err_and c.from_residual-in_err-stratified_queries.result c.from_residual-in_err-stratified_queries.ensures.1 in
+    rw (p.1, p.2) (follows _ c.in_ok-num_variables.ensures (follows _ c.in_ok-max_log_domain_size.ensures (follows _ c.in_ok-domain_id.ensures (breaks _ c.in_err-stratified_queries.ensures))))
 
 pub returns : goal.returns
 unfolding domain_part
-returns c = (follows _ c.in-ok-num-variables.ensures (follows _ c.in-ok-max-log-domain-size.ensures (follows _ c.in-ok-domain-id.ensures (follows _ c.in-ok-stratified-queries.ensures (record { stands = refl })))))
+returns c = (follows _ c.in_ok-num_variables.ensures (follows _ c.in_ok-max_log_domain_size.ensures (follows _ c.in_ok-domain_id.ensures (follows _ c.in_ok-stratified_queries.ensures (record { stands = refl })))))

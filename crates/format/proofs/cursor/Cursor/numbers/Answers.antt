@@ -8,16 +8,16 @@ use Rattle.format.proofs.cursor.Cursor.numbers.Goals as goal
 pub loop-i-init : goal.loop-i-init
 loop-i-init c = leads_start (λ _. next_number) c.args.count c.args.self.now.rest.now _ c.new-items.ensures.items
 
-pub returns-in-err-item : goal.returns-in-err-item
+pub returns-in_err-item : goal.returns-in_err-item
 unfolding numbers_listed
-returns-in-err-item c =
-    let p = err_from_is_err_and c.from-residual.result c.from-residual.ensures.1 in
-    rw (p.1, p.2) (leads_breaks (λ _. next_number) c.args.count c.args.self.now.rest.now c.loop-i.-i (vec_items c.loop-i.items) c.loop-i.self.rest.now c.loop-i.invariant c.loop-i-test.true c.in-err-item.ensures)
+returns-in_err-item c =
+    let p = err_from_is_err_and c.from_residual.result c.from_residual.ensures.1 in
+    rw (p.1, p.2) (leads_breaks (λ _. next_number) c.args.count c.args.self.now.rest.now c.loop-i.-i (vec_items c.loop-i.items) c.loop-i.self.rest.now c.loop-i.invariant c.loop-i-test.true c.in_err-item.ensures)
 
 pub loop-i-preserved : goal.loop-i-preserved
 loop-i-preserved c =
-    leads_push (λ _. next_number) c.args.count c.args.self.now.rest.now c.loop-i.-i (vec_items c.loop-i.items) c.loop-i.self.rest.now c.in-ok-item.item _ _ c.loop-i.invariant c.loop-i-test.true c.in-ok-item.ensures.stands
-    c.in-ok-push.ensures.items
+    leads_push (λ _. next_number) c.args.count c.args.self.now.rest.now c.loop-i.-i (vec_items c.loop-i.items) c.loop-i.self.rest.now c.in_ok-item.item _ _ c.loop-i.invariant c.loop-i-test.true c.in_ok-item.ensures.stands
+    c.in_ok-push.ensures.items
 
 pub returns : goal.returns
 unfolding numbers_listed

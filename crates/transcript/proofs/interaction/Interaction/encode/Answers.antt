@@ -6,9 +6,9 @@ use Rattle.transcript.proofs.interaction.Interaction.encode.Goals as goal
 
 pub append-requires-3 : goal.append-requires-3
 append-requires-3 c =
-    let short : length c.as-bytes.result.now ≤ 19 =
-    omega (arith, label_short c.args.self.now.label, ap length (c.as-bytes.ensures.value ∙ c.as-str.ensures)) in
-    omega (arith, c.append-2.ensures.len, c.append.ensures.len, ap length c.to-be-bytes.ensures, ap length c.to-be-bytes-2.ensures)
+    let short : length c.as_bytes.result.now ≤ 19 =
+    omega (arith, label_short c.args.self.now.label, ap length (c.as_bytes.ensures.value ∙ c.as_str.ensures)) in
+    omega (arith, c.append-2.ensures.len, c.append.ensures.len, ap length c.to_be_bytes.ensures, ap length c.to_be_bytes-2.ensures)
 
 pub returns : goal.returns
 unfolding step_bytes
@@ -18,6 +18,6 @@ returns c =
     (c.push.ensures.after ∙ ap (λ b. written c.new-piece.result ++ (b ∷ [])) c.byte.ensures)
     (c.push-2.ensures.after ∙ ap (λ b. written c.push.new.self ++ (b ∷ [])) c.byte-2.ensures)
     (c.push-3.ensures.after ∙ ap (λ b. written c.push-2.new.self ++ (b ∷ [])) c.byte-3.ensures)
-    (c.append.ensures.after ∙ ap (λ x. written c.push-3.new.self ++ x) (c.to-be-bytes.ensures ∙ eight_bytes c.args.self.now.width))
-    (c.append-2.ensures.after ∙ ap (λ x. written c.append.new.self ++ x) (c.to-be-bytes-2.ensures ∙ eight_bytes c.args.self.now.length))
-    (c.append-3.ensures.after ∙ ap (λ x. written c.append-2.new.self ++ x) (c.as-bytes.ensures.value ∙ c.as-str.ensures))
+    (c.append.ensures.after ∙ ap (λ x. written c.push-3.new.self ++ x) (c.to_be_bytes.ensures ∙ eight_bytes c.args.self.now.width))
+    (c.append-2.ensures.after ∙ ap (λ x. written c.append.new.self ++ x) (c.to_be_bytes-2.ensures ∙ eight_bytes c.args.self.now.length))
+    (c.append-3.ensures.after ∙ ap (λ x. written c.append-2.new.self ++ x) (c.as_bytes.ensures.value ∙ c.as_str.ensures))

@@ -5,5 +5,5 @@ use Rattle.transcript.proofs.piece.Piece.instance.Goals as goal
 
 pub returns : goal.returns
 returns c =
-    instance_written (written c.new-piece.result) (written c.append.new.self) (written c.append-2.new.self) c.args.bytes.now c.to-be-bytes.result
-    c.new-piece.ensures.0 c.append.ensures.after c.append-2.ensures.after (c.to-be-bytes.ensures ∙ eight_bytes _)
+    instance_written (written c.new-piece.result) (written c.append.new.self) (written c.append-2.new.self) c.args.bytes.now c.to_be_bytes.result
+    c.new-piece.ensures.0 c.append.ensures.after c.append-2.ensures.after (c.to_be_bytes.ensures ∙ eight_bytes _)

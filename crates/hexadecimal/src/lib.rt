@@ -1,7 +1,9 @@
 //! Byte strings in hexadecimal.
+#![tactic(auto)]
+
 ghost use Rattle.std.specs.Prelude.{◌≡◌, IfOk, vec_items};
 ghost use Rattle.std.specs.Option.{option_map};
-ghost use Rattle.hex.specs.Hex.{digit_value, byte_value, spelled};
+ghost use Rattle.hexadecimal.specs.Hex.{digit_value, byte_value, spelled};
 
 use std::alloc::{AllocError, Global};
 

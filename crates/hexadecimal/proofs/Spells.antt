@@ -1,7 +1,7 @@
 -- Two digits more of a text.
 use Rattle.std.proofs.Common.{◌≡◌, ℕ, suc, ◌+◌, ◌<◌, ◌≤◌, List, [], ◌∷◌, ◌++◌, length, get_or, drop, Some, None, Option, sym, refl, ap, ◌∙◌, subst, add-one, arith, drop-cons}
 use Rattle.std.proofs.lemmas.List.{drop_all}
-use Rattle.hex.specs.Hex.{digit_value, byte_value, then_spell, spell, spelled}
+use Rattle.hexadecimal.specs.Hex.{digit_value, byte_value, then_spell, spell, spelled}
 
 many_spelled : (l : List ℕ) → ¬ (length l ≡ 1) → spelled l ≡ spell [] l
 many_spelled [] n = refl
