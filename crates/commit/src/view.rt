@@ -94,9 +94,9 @@ pub struct Coefficients<'a, E, R> {
 }
 
 impl<'a, F: Field, E: ExtensionField<F>, R: Rows<E>> Rows<F> for Coefficients<'a, E, R> {
-    ghost wide = { λ s. R.Rows.wide s.rows.now * E-as-ExtensionField.extension.degree };
+    ghost wide = { λ s. R.Rows.wide s.rows.now * E.ExtensionField.extension.degree };
 
-    ghost flat = { λ s. spread E-as-ExtensionField.extension (R.Rows.flat s.rows.now) };
+    ghost flat = { λ s. spread E.ExtensionField.extension (R.Rows.flat s.rows.now) };
 
     fn count_is(&self, count: usize) -> bool {
         self.rows.count_is(count)

@@ -7,7 +7,7 @@ use Rattle.std.proofs.lemmas.Bool.{le-leb, lt-leb, eq-eqb, ne_eqb, and_parts, le
 use Rattle.configuration.specs.Phases.{rate, rates, left, no_round, domain_fits, rate_follows, rates_of, every, round_agrees, phase_agrees, opening_within, rows_at, queries, log_domain, log_positions_of, same, consistent, rates_agree}
 use Rattle.configuration.specs.Limits.{within_limits, sizes_within, at_most, factors_of}
 use Rattle.configuration.proofs.Walks.{every_at, every_end}
-use Rattle.configuration.specs.declared.parameters.RoundConfig.{RoundConfig}
+use Rattle.configuration.specs.declared.whir_parameters.RoundConfig.{RoundConfig}
 
 -- a number of a round that was read
 pub read_number : (f : RoundConfig → ℕ) (rs : List RoundConfig) (i d : ℕ) (r : RoundConfig) → i < length rs → r ≡ get_or rs i r

@@ -4,7 +4,7 @@ use Rattle.std.specs.List.{slice_get}
 use Rattle.std.proofs.lemmas.List.{take_all, take_more, map_push}
 use Rattle.std.proofs.lemmas.List.Sums.{sum_by_more, sum_by-take-le, fold_push}
 use Rattle.std.proofs.lemmas.Bool.{and_parts, leb-true, cond-true, lt-ltb, cases_lt}
-use Rattle.configuration.specs.declared.parameters.RoundConfig.{RoundConfig}
+use Rattle.configuration.specs.declared.whir_parameters.RoundConfig.{RoundConfig}
 use Rattle.parameters.specs.Refusals.{Refusal}
 use Rattle.configuration.specs.Numbers.{Numbers}
 use Rattle.configuration.specs.Limits.{within_limits, sizes_within, difficulties_within, others_within, at_most, factors_of}

@@ -7,7 +7,7 @@ use Rattle.parameters.specs.declared.errors.ScheduleError.{ScheduleError}
 use Rattle.parameters.specs.declared.errors.ScheduleError.TheVariants as plan
 use Rattle.configuration.specs.declared.errors.WhirConfigError.{WhirConfigError}
 use Rattle.configuration.specs.declared.errors.WhirConfigError.TheVariants.{Limit, Folding, Inconsistent, OutOfMemory}
-use Rattle.configuration.specs.declared.parameters.WhirNumbers.{WhirNumbers}
+use Rattle.configuration.specs.declared.whir_parameters.WhirNumbers.{WhirNumbers}
 use Rattle.configuration.specs.declared.whir.WhirConfig.{WhirConfig}
 use Rattle.configuration.specs.Numbers.{Numbers}
 use Rattle.configuration.specs.Limits.{within_limits}

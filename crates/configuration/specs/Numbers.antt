@@ -2,9 +2,9 @@
 use Rattle.std.specs.Prelude.{ℕ, Bool, List, vec_items}
 use Rattle.parameters.specs.Schedule.{Strategy}
 use Rattle.parameters.specs.Replies.{strategy_of}
-use Rattle.configuration.specs.declared.parameters.RoundConfig.{RoundConfig}
-use Rattle.configuration.specs.declared.parameters.TerminalBudget.{TerminalBudget}
-use Rattle.configuration.specs.declared.parameters.WhirNumbers.{WhirNumbers}
+use Rattle.configuration.specs.declared.whir_parameters.RoundConfig.{RoundConfig}
+use Rattle.configuration.specs.declared.whir_parameters.TerminalBudget.{TerminalBudget}
+use Rattle.configuration.specs.declared.whir_parameters.WhirNumbers.{WhirNumbers}
 
 pub record Numbers : Type 0 where
   -- the variables of the table, the largest log of a domain, the domain's name and whether its queries are stratified

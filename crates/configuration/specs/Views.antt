@@ -1,8 +1,8 @@
 -- Numbers that follow from a configuration's.
 use Rattle.std.specs.Prelude.{ℕ, suc, ◌+◌, ◌-◌, ◌^◌, max, cond, List, [], ◌∷◌, map, length, Some, None, fold, sum, Option, nat_lt}
-use Rattle.configuration.specs.declared.parameters.RoundConfig.{RoundConfig}
-use Rattle.configuration.specs.declared.parameters.SecurityAssumption.{SecurityAssumption}
-use Rattle.configuration.specs.declared.parameters.SecurityAssumption.TheVariants.{UniqueDecoding, JohnsonBound, CapacityBound}
+use Rattle.configuration.specs.declared.whir_parameters.RoundConfig.{RoundConfig}
+use Rattle.configuration.specs.declared.whir_parameters.SecurityAssumption.{SecurityAssumption}
+use Rattle.configuration.specs.declared.whir_parameters.SecurityAssumption.TheVariants.{UniqueDecoding, JohnsonBound, CapacityBound}
 use Rattle.configuration.specs.Numbers.{Numbers}
 use Rattle.configuration.specs.Phases.{left, rate, factor, log_domain, log_positions_of}
 

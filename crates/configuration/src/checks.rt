@@ -5,7 +5,7 @@ ghost use Rattle.configuration.specs.Numbers.{numbers_of};
 ghost use Rattle.configuration.specs.Limits.{at_most, all_by, factors_of, sizes_within, difficulties_within, others_within, lists_within, round_within, within_limits};
 ghost use Rattle.configuration.specs.Phases.{every, same, rate, rates_of, log_domain, log_positions_of, factor, round_agrees, domain_fits, phase_agrees, rate_follows, rates_agree, consistent, query_draws, queries, draws, rows_at, openings_within};
 
-use crate::parameters::{RoundConfig, WhirNumbers};
+use crate::whir_parameters::{RoundConfig, WhirNumbers};
 use parameters::folding::{FoldingFactor, variables_left};
 
 // Each of the numbers is at most the bound.
@@ -230,8 +230,8 @@ impl WhirNumbers {
 impl WhirNumbers {
     // Each round's numbers are those of its phase.
     fn rounds_agree(&self, schedule: &[usize]) -> bool
-        requires round_parameters_len { length self.now.round_parameters.items + 1 ≡ length schedule.now }
-        requires by_index { (i : ℕ) → i < length schedule.now → log_domain (numbers_of self.now) schedule.now i ≤ 16 }
+        requires lengths { length self.now.round_parameters.items + 1 ≡ length schedule.now }
+        requires domains { (i : ℕ) → i < length schedule.now → log_domain (numbers_of self.now) schedule.now i ≤ 16 }
         ensures { result ≡ every (length self.now.round_parameters.items) (phase_agrees (numbers_of self.now) schedule.now) }
     {
         let mut left = self.num_variables;

@@ -4,6 +4,6 @@
 pub mod checks;
 pub mod errors;
 pub mod making;
-pub mod parameters;
 pub mod phases;
 pub mod whir;
+pub mod whir_parameters;

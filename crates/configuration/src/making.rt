@@ -6,8 +6,8 @@ ghost use Rattle.configuration.specs.Verdicts.{fault_of_phases, ConfigurationsPh
 ghost use Rattle.configuration.specs.Faults.{said, Answers, Keeps, Tells};
 
 use crate::errors::WhirConfigError;
-use crate::parameters::WhirNumbers;
 use crate::whir::WhirConfig;
+use crate::whir_parameters::WhirNumbers;
 use std::alloc::Global;
 
 impl WhirNumbers {

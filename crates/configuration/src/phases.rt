@@ -4,8 +4,8 @@ ghost use Rattle.std.specs.List.{slice_get};
 ghost use Rattle.configuration.specs.Numbers.{numbers_of};
 ghost use Rattle.configuration.specs.Views.{kind_number, reduction, hardest_of, hardest, final_round};
 
-use crate::parameters::{ProtocolParameters, RoundConfig, SecurityAssumption};
 use crate::whir::WhirConfig;
+use crate::whir_parameters::{ProtocolParameters, RoundConfig, SecurityAssumption};
 
 impl WhirConfig {
     // The type of soundness guarantee.

@@ -3,7 +3,7 @@ ghost use Rattle.std.specs.Prelude.{◌≡◌, true};
 ghost use Rattle.configuration.specs.Numbers.{numbers_of};
 ghost use Rattle.configuration.specs.Verdicts.{flawless};
 
-use crate::parameters::WhirNumbers;
+use crate::whir_parameters::WhirNumbers;
 
 // A checked configuration: numbers without a fault. There is no other.
 #[derive(Drop)]

@@ -6,7 +6,7 @@ use Rattle.std.proofs.lemmas.List.{take_more, take_all}
 use Rattle.std.proofs.lemmas.List.FromFn.{map-range_with_len_more, sum_by-map-range_with_len_more}
 use Rattle.std.proofs.lemmas.List.Sums.{sum_by-cons, sum_by_more, fold_push}
 use Rattle.std.proofs.lemmas.Bool.{and_parts, leb-true}
-use Rattle.configuration.specs.declared.parameters.RoundConfig.{RoundConfig}
+use Rattle.configuration.specs.declared.whir_parameters.RoundConfig.{RoundConfig}
 use Rattle.configuration.specs.Numbers.{Numbers}
 use Rattle.configuration.specs.Limits.{within_limits, round_within, all_by, at_most, sizes_within, difficulties_within, others_within, lists_within}
 use Rattle.configuration.specs.Phases.{left, rate, factor, queries, log_domain, rows}

@@ -1,7 +1,7 @@
 -- What is shown of a configuration: its phases and the buffers that a verification needs.
 use Rattle.std.specs.Prelude.{◌≡◌, ℕ, ◌+◌, ◌-◌, ◌*◌, ◌^◌, max, List, map, length, vec_items, fold, sum_by}
 use Rattle.std.specs.List.{range_with_len}
-use Rattle.configuration.specs.declared.parameters.RoundConfig.{RoundConfig}
+use Rattle.configuration.specs.declared.whir_parameters.RoundConfig.{RoundConfig}
 use Rattle.configuration.specs.Numbers.{Numbers}
 use Rattle.configuration.specs.Phases.{left, rate, factor, queries, query_draws, rows_at}
 use Rattle.configuration_view.specs.declared.phases.Phase.{Phase}

@@ -8,7 +8,7 @@ ghost use Rattle.configuration_view.specs.Shown.{phase_from, phase_of, phases_of
 
 use crate::phases::{Buffers, Phase, View};
 use configuration::checks::query_draws;
-use configuration::parameters::{RoundConfig, WhirNumbers};
+use configuration::whir_parameters::{RoundConfig, WhirNumbers};
 use configuration::whir::WhirConfig;
 use std::alloc::{AllocError, Global};
 

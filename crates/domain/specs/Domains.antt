@@ -6,7 +6,7 @@ use Rattle.ring.specs.Ring.{Ops}
 use Rattle.ring.specs.Polynomials.{Distinct}
 use Rattle.multilinear.specs.Tables.{position}
 use Rattle.multilinear.specs.Univariate.{expand}
-use Rattle.configuration.specs.declared.parameters.SecurityAssumption.{SecurityAssumption}
+use Rattle.configuration.specs.declared.whir_parameters.SecurityAssumption.{SecurityAssumption}
 use Rattle.domain.specs.declared.query.Limit.{Limit}
 use Rattle.domain.specs.declared.query.Limit.TheVariants.{OutOfDomain}
 use Rattle.domain.specs.declared.query.WhirQueryPoint.{WhirQueryPoint}

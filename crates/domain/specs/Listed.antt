@@ -3,8 +3,8 @@ use Rattle.std.specs.Prelude.{◌≡◌, ℕ, ◌^◌, ◌≤◌, Bool, true, fa
 use Rattle.ring.specs.Ring.{Ops}
 use Rattle.ring.specs.Polynomials.{Distinct}
 use Rattle.multilinear.specs.Univariate.{expand}
-use Rattle.configuration.specs.declared.parameters.SecurityAssumption.{SecurityAssumption}
-use Rattle.configuration.specs.declared.parameters.SecurityAssumption.TheVariants.{UniqueDecoding, JohnsonBound, CapacityBound}
+use Rattle.configuration.specs.declared.whir_parameters.SecurityAssumption.{SecurityAssumption}
+use Rattle.configuration.specs.declared.whir_parameters.SecurityAssumption.TheVariants.{UniqueDecoding, JohnsonBound, CapacityBound}
 use Rattle.domain.specs.declared.query.WhirQueryPoint.TheVariants.{Multilinear}
 use Rattle.domain.specs.Domains.{Domain}
 

@@ -7,7 +7,7 @@
 ghost use Rattle.std.specs.Prelude.{◌≡◌, ℕ, ◌^◌, ◌≤◌, Bool};
 ghost use Rattle.domain.specs.Domains.{Domain, inside, told, coordinate, Lawful};
 
-use configuration::parameters::SecurityAssumption;
+use configuration::whir_parameters::SecurityAssumption;
 use field::{BaseField, ExtensionField, Field};
 use query::{Limit, WhirQueryPoint};
 

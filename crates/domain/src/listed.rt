@@ -7,7 +7,7 @@ ghost use Rattle.domain.specs.Listed.{Listable, listed};
 use crate::query::{Limit, WhirQueryPoint};
 use crate::two_adic::coordinate_of;
 use crate::{WhirDomain, is_inside};
-use configuration::parameters::SecurityAssumption;
+use configuration::whir_parameters::SecurityAssumption;
 use field::{BaseField, ExtensionField, Field};
 
 // A domain of lent elements, of which a log size uses the first.

@@ -7,7 +7,7 @@ ghost use Rattle.domain.specs.Subgroup.{generator, subgroup};
 use crate::query::{Limit, WhirQueryPoint};
 use crate::two_adic::{TwoAdicField, coordinate_of, exp, generator_of};
 use crate::{WhirDomain, is_inside};
-use configuration::parameters::SecurityAssumption;
+use configuration::whir_parameters::SecurityAssumption;
 use field::{BaseField, ExtensionField, Field};
 
 // The domain of the canonical two-adic protocol: the powers of the generator.

@@ -5,7 +5,7 @@
 // `element` count, step, log, m, index and that list's answer; `repeat` count, i and j: the list of numbers with the one at i also at j is refused.
 #![tactic(auto)]
 
-use configuration::parameters::SecurityAssumption;
+use configuration::whir_parameters::SecurityAssumption;
 use domain::WhirDomain;
 use domain::listed::ListedDomain;
 use domain::query::{Limit, WhirQueryPoint};

@@ -3,8 +3,8 @@ use Rattle.std.specs.Prelude.{ℕ, Bool, List, vec_items}
 use Rattle.parameters.specs.Schedule.{Strategy}
 use Rattle.parameters.specs.Replies.{strategy_of}
 use Rattle.configuration.specs.Numbers.{Numbers}
-use Rattle.configuration.specs.declared.parameters.RoundConfig.{RoundConfig}
-use Rattle.configuration.specs.declared.parameters.TerminalBudget.{TerminalBudget}
+use Rattle.configuration.specs.declared.whir_parameters.RoundConfig.{RoundConfig}
+use Rattle.configuration.specs.declared.whir_parameters.TerminalBudget.{TerminalBudget}
 use Rattle.format.specs.declared.groups.DomainLines.{DomainLines}
 use Rattle.format.specs.declared.groups.ParameterLines.{ParameterLines}
 use Rattle.format.specs.declared.groups.PhaseLines.{PhaseLines}

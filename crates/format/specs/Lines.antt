@@ -1,8 +1,8 @@
 -- The kinds of lines that a configuration has.
 use Rattle.std.specs.Prelude.{ℕ, zero, suc, ◌<◌, Bool, true, false, cond, List, [], ◌∷◌, length, drop, codes, ◌==◌, nat_lt, slice_index}
 use Rattle.parameters.specs.Schedule.{Strategy, constant, second, per_round}
-use Rattle.configuration.specs.declared.parameters.RoundConfig.{RoundConfig}
-use Rattle.configuration.specs.declared.parameters.TerminalBudget.{TerminalBudget}
+use Rattle.configuration.specs.declared.whir_parameters.RoundConfig.{RoundConfig}
+use Rattle.configuration.specs.declared.whir_parameters.TerminalBudget.{TerminalBudget}
 use Rattle.format.specs.declared.errors.Expected.TheVariants as expected
 use Rattle.format.specs.declared.keys.Key.{Key}
 use Rattle.format.specs.declared.keys.Key.TheVariants.{Round, Rounds}

@@ -4,7 +4,7 @@ use Rattle.std.specs.List.{AllByRecursion as All}
 use Rattle.parameters.specs.Schedule.{Strategy, constant, second, per_round}
 use Rattle.configuration.specs.Numbers.{Numbers}
 use Rattle.configuration.specs.Limits.{factors_of}
-use Rattle.configuration.specs.declared.parameters.RoundConfig.{RoundConfig}
+use Rattle.configuration.specs.declared.whir_parameters.RoundConfig.{RoundConfig}
 use Rattle.format.specs.declared.keys.Key.{Key}
 use Rattle.format.specs.declared.keys.Key.TheVariants as key
 use Rattle.format.specs.Words.{letters}

@@ -1,5 +1,5 @@
 // Groups of lines that stand together in a configuration.
-use configuration::parameters::{RoundConfig, TerminalBudget};
+use configuration::whir_parameters::{RoundConfig, TerminalBudget};
 use parameters::folding::FoldingFactor;
 
 #[derive(Drop)]

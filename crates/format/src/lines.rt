@@ -7,7 +7,7 @@ ghost use Rattle.format.specs.Lines.{line, byte_item, bytes_listed, byte_list, f
 use crate::cursor::Cursor;
 use crate::errors::{Expected, Fault};
 use crate::keys::Key;
-use configuration::parameters::{RoundConfig, TerminalBudget};
+use configuration::whir_parameters::{RoundConfig, TerminalBudget};
 use parameters::folding::FoldingFactor;
 use std::alloc::Global;
 

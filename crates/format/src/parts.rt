@@ -8,7 +8,7 @@ use crate::cursor::Cursor;
 use crate::errors::Fault;
 use crate::groups::{DomainLines, FinalLines, ParameterLines, PhaseLines};
 use crate::keys::Key;
-use configuration::parameters::WhirNumbers;
+use configuration::whir_parameters::WhirNumbers;
 use std::alloc::Global;
 
 impl<'a> Cursor<'a> {

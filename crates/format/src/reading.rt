@@ -6,7 +6,7 @@ ghost use Rattle.format.specs.Written.{ReadsBack, WrittenApart};
 use crate::cursor::{Cursor, begins_with};
 use crate::errors::{Fault, ReadError};
 use crate::keys::Key;
-use configuration::parameters::WhirNumbers;
+use configuration::whir_parameters::WhirNumbers;
 use std::alloc::Global;
 
 // How many line feeds a text has.

@@ -3,7 +3,7 @@
 
 use anyhow::anyhow;
 use configuration::errors::WhirConfigError;
-use configuration::parameters::WhirNumbers;
+use configuration::whir_parameters::WhirNumbers;
 use configuration::whir::WhirConfig;
 use configuration_view::phases::{Buffers, Phase};
 use configuration_view::refusals::RefusalLine;

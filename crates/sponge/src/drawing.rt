@@ -10,7 +10,7 @@ use field::{BaseField, ExtensionField};
 
 /// So many bits: a word modulo that power of two. (From 32 bits on that is the word itself.)
 pub fn draw_bits<S: Sponge>(sponge: &mut S, bits: u32) -> u32
-    ensures { Plays rules (held sponge.old) (draw_bits bits) (Ok result) (held sponge.new) }
+    ensures { Plays S.Sponge.rules (S.Sponge.held sponge.old) (draw_bits bits) (Ok result) (S.Sponge.held sponge.new) }
 {
     let word = sponge.draw();
     if bits < 32 { word % (1 << bits) } else { word }
@@ -19,7 +19,7 @@ pub fn draw_bits<S: Sponge>(sponge: &mut S, bits: u32) -> u32
 /// Grinding: observes the witness, draws so many bits, and says whether they are 0. At 0 bits
 /// nothing is observed or drawn, and every witness will do.
 pub fn check_witness<S: Sponge>(sponge: &mut S, bits: u32, witness: u32) -> bool
-    ensures { Plays rules (held sponge.old) (check_witness bits witness) (Ok result) (held sponge.new) }
+    ensures { Plays S.Sponge.rules (S.Sponge.held sponge.old) (check_witness bits witness) (Ok result) (S.Sponge.held sponge.new) }
 {
     if bits == 0 {
         return true;
@@ -31,14 +31,14 @@ pub fn check_witness<S: Sponge>(sponge: &mut S, bits: u32, witness: u32) -> bool
 
 /// A base element: a word modulo the modulus.
 pub fn draw_base<F: BaseField, S: Sponge>(sponge: &mut S) -> F
-    ensures { Plays rules (held sponge.old) (draw_base F.BaseField.numbering) (Ok result) (held sponge.new) }
+    ensures { Plays S.Sponge.rules (S.Sponge.held sponge.old) (draw_base F.BaseField.numbering) (Ok result) (S.Sponge.held sponge.new) }
 {
     F::from_word(sponge.draw())
 }
 
 /// An extension element: its coefficients in turn, each a base element.
 pub fn draw_extension<F: BaseField, E: ExtensionField<F>, S: Sponge>(sponge: &mut S) -> E
-    ensures { Plays rules (held sponge.old) (draw_extension F.BaseField.numbering E.ExtensionField.extension) (Ok result) (held sponge.new) }
+    ensures { Plays S.Sponge.rules (S.Sponge.held sponge.old) (draw_extension F.BaseField.numbering E.ExtensionField.extension) (Ok result) (S.Sponge.held sponge.new) }
 {
     let mut x = E::zero();
     for i in 0..E::degree() {
@@ -49,14 +49,14 @@ pub fn draw_extension<F: BaseField, E: ExtensionField<F>, S: Sponge>(sponge: &mu
 
 /// Observes a base element by one call: the four bytes of its number, lowest first.
 pub fn observe_base<F: BaseField, S: Sponge>(sponge: &mut S, x: F)
-    ensures { Plays rules (held sponge.old) (observe_base F.BaseField.numbering x) (Ok tt) (held sponge.new) }
+    ensures { Plays S.Sponge.rules (S.Sponge.held sponge.old) (observe_base F.BaseField.numbering x) (Ok tt) (S.Sponge.held sponge.new) }
 {
     sponge.observe(&x.number().to_le_bytes());
 }
 
 /// Observes an extension element by one call: four bytes for each coefficient, in their order.
 pub fn observe_extension<F: BaseField, E: ExtensionField<F>, S: Sponge>(sponge: &mut S, x: E)
-    ensures { Plays rules (held sponge.old) (observe_extension F.BaseField.numbering E.ExtensionField.extension x) (Ok tt) (held sponge.new) }
+    ensures { Plays S.Sponge.rules (S.Sponge.held sponge.old) (observe_extension F.BaseField.numbering E.ExtensionField.extension x) (Ok tt) (S.Sponge.held sponge.new) }
 {
     let mut bytes = [0; 32];
     let count = write_element::<F, E>(x, &mut bytes);

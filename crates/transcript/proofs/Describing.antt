@@ -9,7 +9,7 @@ use Rattle.std.proofs.lemmas.List.{map-append, map_more, take_all, length-map, g
 use Rattle.sponge.specs.Play.{Rules, counted}
 use Rattle.configuration.specs.Numbers.{Numbers}
 use Rattle.configuration.specs.Phases.{factor, rate, log_positions_of, draws, round_at, no_round}
-use Rattle.configuration.specs.declared.parameters.RoundConfig.{RoundConfig}
+use Rattle.configuration.specs.declared.whir_parameters.RoundConfig.{RoundConfig}
 use Rattle.transcript.specs.Bytes.{eight}
 use Rattle.transcript.specs.Depths.{depths}
 use Rattle.transcript.specs.Steps.{Step, step_bytes, commitment_step, drawn_step, sent_step, bracket, indices_step}

@@ -2,7 +2,7 @@
 use Rattle.std.proofs.Common.{◌≡◌, ℕ, zero, suc, ◌+◌, ◌-◌, ◌*◌, ◌%◌, ◌^◌, ◌<◌, ◌≤◌, min, Bool, true, cond, not, ◌&&◌, eqb, leb, List, [], ◌∷◌, map, length, get_or, take, is_some, Some, None, sum, Option, sym, refl, ap, ◌∙◌, subst, ⊎_elim, add-one, arith, pow_pos}
 use Rattle.parameters.specs.Refusals.{Refusal}
 use Rattle.configuration.specs.Limits.{within_limits, sizes_within, difficulties_within, others_within, lists_within, round_within, all_by, at_most, factors_of}
-use Rattle.configuration.specs.declared.parameters.RoundConfig.{RoundConfig}
+use Rattle.configuration.specs.declared.whir_parameters.RoundConfig.{RoundConfig}
 use Rattle.configuration.proofs.Phased.{checked}
 use Rattle.std.proofs.lemmas.Nat.{one_shl}
 use Rattle.std.proofs.lemmas.List.{get_or_past, get_or-map, length-map}

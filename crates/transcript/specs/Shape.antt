@@ -2,7 +2,7 @@
 use Rattle.std.specs.Prelude.{ℕ, suc, ◌^◌, min, Bool, List, map, length, slice_index_or}
 use Rattle.parameters.specs.Schedule.{Strategy}
 use Rattle.sponge.specs.Play.{counted}
-use Rattle.configuration.specs.declared.parameters.RoundConfig.{RoundConfig}
+use Rattle.configuration.specs.declared.whir_parameters.RoundConfig.{RoundConfig}
 use Rattle.configuration.specs.Numbers.{Numbers}
 use Rattle.configuration.specs.Phases.{factor, rate, log_positions_of, draws, round_at}
 use Rattle.transcript.specs.Depths.{depths}

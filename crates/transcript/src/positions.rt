@@ -33,7 +33,7 @@ fn draw_indices<S: Sponge>(
     count: usize,
 )
     requires { (from + count ≤ length out.old) × ((bits ≤ 16) × ((stride ≤ 65536) × (count ≤ 65536))) }
-    ensures { Fills rules (held sponge.old) (indices_drawn bits stride count) (held sponge.new) from count out.old out.new }
+    ensures { Fills S.Sponge.rules (S.Sponge.held sponge.old) (indices_drawn bits stride count) (S.Sponge.held sponge.new) from count out.old out.new }
 {
     for i in 0..count {
         let low = draw_bits(sponge, bits as u32);
@@ -50,7 +50,7 @@ fn draw_strata<S: Sponge>(
     draws: usize,
 )
     requires { (from + draws ≤ length out.old) × ((width ≤ 16) × (draws ≤ 1024)) }
-    ensures { Fills rules (held sponge.old) (strata_drawn width (depths draws)) (held sponge.new) from draws out.old out.new }
+    ensures { Fills S.Sponge.rules (S.Sponge.held sponge.old) (strata_drawn width (depths draws)) (S.Sponge.held sponge.new) from draws out.old out.new }
 {
     let mut remaining = draws;
     let mut at = from;
@@ -75,7 +75,7 @@ fn draw_positions<S: Sponge>(
     draws: usize,
 )
     requires { (from + opened_at width draws ≤ length out.old) × ((width ≤ 16) × (draws ≤ 1024)) }
-    ensures { Fills rules (held sponge.old) (positions_at stratified width draws) (held sponge.new) from (opened_at width draws) out.old out.new }
+    ensures { Fills S.Sponge.rules (S.Sponge.held sponge.old) (positions_at stratified width draws) (S.Sponge.held sponge.new) from (opened_at width draws) out.old out.new }
 {
     if draws == 0 {
         fill_all(out, from, 1 << width);
@@ -113,7 +113,7 @@ impl Run {
         out: &mut [usize],
         from: usize,
     ) -> bool
-        ensures { Indices rules (numbers_of config.now.numbers) (phase_of (numbers_of config.now.numbers) round) result (held sponge.old) (held sponge.new) from out.old out.new }
+        ensures { Indices S.Sponge.rules (numbers_of config.now.numbers) (phase_of (numbers_of config.now.numbers) round) result (S.Sponge.held sponge.old) (S.Sponge.held sponge.new) from out.old out.new }
     {
         let site = query_site(config, round);
         let count = opened_rows(site.index_bits, site.draws);

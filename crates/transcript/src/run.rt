@@ -29,7 +29,7 @@ impl Run {
         config: &WhirConfig,
         num_opening_claims: usize,
     ) -> Run
-        ensures { Plays rules (held sponge.old) (opening (numbers_of config.now.numbers) E.ExtensionField.extension.degree num_opening_claims) (Ok tt) (held sponge.new) }
+        ensures { Plays S.Sponge.rules (S.Sponge.held sponge.old) (opening (numbers_of config.now.numbers) E.ExtensionField.extension.degree num_opening_claims) (Ok tt) (S.Sponge.held sponge.new) }
     {
         observe_separator(sponge, config, E::degree(), num_opening_claims);
         Run { mark: () }
@@ -47,14 +47,14 @@ impl Run {
 
     // Binds one round's commitment, by the bytes that its scheme gives.
     pub fn commitment<S: Sponge>(&self, sponge: &mut S, bytes: &[u8])
-        ensures { Plays rules (held sponge.old) (observing {R = ⊥} bytes.now) (Ok tt) (held sponge.new) }
+        ensures { Plays S.Sponge.rules (S.Sponge.held sponge.old) (observing {R = ⊥} bytes.now) (Ok tt) (S.Sponge.held sponge.new) }
     {
         sponge.observe(bytes);
     }
 
     // Draws one out-of-domain evaluation point.
     pub fn ood_point<F: BaseField, E: ExtensionField<F>, S: Sponge>(&self, sponge: &mut S) -> E
-        ensures { Plays rules (held sponge.old) (draw_extension F.BaseField.numbering E.ExtensionField.extension) (Ok result) (held sponge.new) }
+        ensures { Plays S.Sponge.rules (S.Sponge.held sponge.old) (draw_extension F.BaseField.numbering E.ExtensionField.extension) (Ok result) (S.Sponge.held sponge.new) }
     {
         draw_extension::<F, E, S>(sponge)
     }
@@ -65,32 +65,32 @@ impl Run {
         sponge: &mut S,
         answer: E,
     )
-        ensures { Plays rules (held sponge.old) (observe_extension F.BaseField.numbering E.ExtensionField.extension answer) (Ok tt) (held sponge.new) }
+        ensures { Plays S.Sponge.rules (S.Sponge.held sponge.old) (observe_extension F.BaseField.numbering E.ExtensionField.extension answer) (Ok tt) (S.Sponge.held sponge.new) }
     {
         observe_extension::<F, E, S>(sponge, answer);
     }
 
     // Draws the challenge weighting one round's fresh constraints.
     pub fn round_batching<F: BaseField, E: ExtensionField<F>, S: Sponge>(&self, sponge: &mut S) -> E
-        ensures { Plays rules (held sponge.old) (draw_extension F.BaseField.numbering E.ExtensionField.extension) (Ok result) (held sponge.new) }
+        ensures { Plays S.Sponge.rules (S.Sponge.held sponge.old) (draw_extension F.BaseField.numbering E.ExtensionField.extension) (Ok result) (S.Sponge.held sponge.new) }
     {
         draw_extension::<F, E, S>(sponge)
     }
 
     // The bracket of the sumcheck that opens the run: nothing is observed or drawn.
     pub fn delegate_initial_fold<S: Sponge>(&self, sponge: &mut S)
-        ensures { Plays rules (held sponge.old) nothing (Ok tt) (held sponge.new) }
+        ensures { Plays S.Sponge.rules (S.Sponge.held sponge.old) nothing (Ok tt) (S.Sponge.held sponge.new) }
     {}
 
     // The bracket of the sumcheck that closes one intermediate round.
     pub fn delegate_round_fold<S: Sponge>(&self, sponge: &mut S)
-        ensures { Plays rules (held sponge.old) nothing (Ok tt) (held sponge.new) }
+        ensures { Plays S.Sponge.rules (S.Sponge.held sponge.old) nothing (Ok tt) (S.Sponge.held sponge.new) }
     {}
 
     // The bracket of the sumcheck that closes the run: whether there is one.
     pub fn delegate_final_fold<S: Sponge>(&self, sponge: &mut S, config: &WhirConfig) -> bool
         ensures fold { result ≡ not (nat_eq config.now.numbers.final_sumcheck_rounds 0) }
-        ensures plays { Plays {R = ⊥} rules (held sponge.old) (answering result) (Ok result) (held sponge.new) }
+        ensures plays { Plays {R = ⊥} rules (S.Sponge.held sponge.old) (answering result) (Ok result) (S.Sponge.held sponge.new) }
     {
         config.numbers.final_sumcheck_rounds != 0
     }
@@ -103,7 +103,7 @@ impl Run {
         round: usize,
         witness: F,
     ) -> Result<(), TranscriptFailure>
-        ensures { Plays rules (held sponge.old) (query_grinding F.BaseField.numbering (numbers_of config.now.numbers) round witness) result (held sponge.new) }
+        ensures { Plays S.Sponge.rules (S.Sponge.held sponge.old) (query_grinding F.BaseField.numbering (numbers_of config.now.numbers) round witness) result (S.Sponge.held sponge.new) }
     {
         let bits = query_site(config, round).pow_bits;
         if check_witness(sponge, bits as u32, witness.number()) {
@@ -120,7 +120,7 @@ impl Run {
         config: &WhirConfig,
         evaluations: &[E],
     ) -> Result<(), TranscriptFailure>
-        ensures { Plays rules (held sponge.old) (final_values F.BaseField.numbering E.ExtensionField.extension (numbers_of config.now.numbers) evaluations.now) result (held sponge.new) }
+        ensures { Plays S.Sponge.rules (S.Sponge.held sponge.old) (final_values F.BaseField.numbering E.ExtensionField.extension (numbers_of config.now.numbers) evaluations.now) result (S.Sponge.held sponge.new) }
     {
         let expected = final_poly_len(config);
         let got = evaluations.len();
@@ -134,7 +134,7 @@ impl Run {
 
 // Each value is observed by itself.
 fn observe_values<F: BaseField, E: ExtensionField<F>, S: Sponge>(sponge: &mut S, values: &[E])
-    ensures { Plays rules (held sponge.old) (values_observed F.BaseField.numbering E.ExtensionField.extension values.now) (Ok tt) (held sponge.new) }
+    ensures { Plays S.Sponge.rules (S.Sponge.held sponge.old) (values_observed F.BaseField.numbering E.ExtensionField.extension values.now) (Ok tt) (S.Sponge.held sponge.new) }
 {
     for value in values {
         observe_extension::<F, E, S>(sponge, *value);

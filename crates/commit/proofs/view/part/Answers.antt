@@ -1,6 +1,6 @@
 use Rattle.std.proofs.Common.{min, ap, ◌∙◌, arith}
 use Rattle.commit.proofs.Lists.{part_is}
-use Rattle.commit.proofs.view.slice_bounds.Goals as goal
+use Rattle.commit.proofs.view.part.Goals as goal
 
 pub returns : goal.returns
 returns g c =

@@ -1,5 +1,5 @@
 use Rattle.std.proofs.Common.{refl}
-use Rattle.configuration.specs.declared.parameters.RoundConfig.{RoundConfig}
+use Rattle.configuration.specs.declared.whir_parameters.RoundConfig.{RoundConfig}
 use Rattle.configuration_view.proofs.Sizes.{sum_more, sum_all}
 use Rattle.configuration_view.proofs.view.samples_of.Goals as goal
 

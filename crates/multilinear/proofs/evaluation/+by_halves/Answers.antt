@@ -16,7 +16,7 @@ pub by_halves-low-requires : goal.by_halves-low-requires
 by_halves-low-requires g t c κs within =
     let n = length c.args.draws.now in
     let lt : c.args.j < length c.args.draws.now = omega arith in
-    let s = half_size g.F.Field.ops g.met.F.Field.lawful.ring c.args.table.now c.split_at.result.0.now c.split_at.result.1.now n c.args.j lt c.requires.1 c.split_at.ensures.front-len c.split_at.ensures.back_len in
+    let s = half_size g.F.Field.ops g.met.F.Field.lawful.ring c.args.table.now c.split_at.result.0.now c.split_at.result.1.now n c.args.j lt c.requires.1 c.split_at.ensures.front_len c.split_at.ensures.back_len in
     let more : c.args.j + 1 ≤ length c.args.draws.now = omega arith in
     let size : length c.split_at.result.0.now ≡ 2 ^ (length c.args.draws.now - (c.args.j + 1)) = s.0 in
     search rules
@@ -25,7 +25,7 @@ pub by_halves-high-requires : goal.by_halves-high-requires
 by_halves-high-requires g t c κs within =
     let n = length c.args.draws.now in
     let lt : c.args.j < length c.args.draws.now = omega arith in
-    let s = half_size g.F.Field.ops g.met.F.Field.lawful.ring c.args.table.now c.split_at.result.0.now c.split_at.result.1.now n c.args.j lt c.requires.1 c.split_at.ensures.front-len c.split_at.ensures.back_len in
+    let s = half_size g.F.Field.ops g.met.F.Field.lawful.ring c.args.table.now c.split_at.result.0.now c.split_at.result.1.now n c.args.j lt c.requires.1 c.split_at.ensures.front_len c.split_at.ensures.back_len in
     let more : c.args.j + 1 ≤ length c.args.draws.now = omega arith in
     let size : length c.split_at.result.1.now ≡ 2 ^ (length c.args.draws.now - (c.args.j + 1)) = s.1 in
     search rules
@@ -38,7 +38,7 @@ returns g t c =
     let f = factor_of F c.args.weight in
     let p = c.coordinate-p.result in
     let lt : c.args.j < length c.args.draws.now = omega arith in
-    let s = half_size F L c.args.table.now c.split_at.result.0.now c.split_at.result.1.now n c.args.j lt c.requires.1 c.split_at.ensures.front-len c.split_at.ensures.back_len in
+    let s = half_size F L c.args.table.now c.split_at.result.0.now c.split_at.result.1.now n c.args.j lt c.requires.1 c.split_at.ensures.front_len c.split_at.ensures.back_len in
     halves_more F L f c.args.table.now c.split_at.result.0.now c.split_at.result.1.now (orient c.args.order c.args.draws.now) n c.args.j p c.by_halves-low.result c.by_halves-high.result
     c.factor.result c.factor-2.result c.mul.result c.mul-2.result c.add.result
     (length_orient F L c.args.order c.args.draws.now) lt c.split_at.ensures.by_index.0 s.0 c.coordinate-p.ensures c.by_halves-low.ensures c.by_halves-high.ensures

@@ -2,7 +2,7 @@ use Rattle.std.proofs.Common.{◌<◌, length, vec_items, ap, arith}
 use Rattle.std.proofs.lemmas.List.{get_or_read}
 use Rattle.configuration.specs.Numbers.{numbers_of}
 use Rattle.configuration.specs.Phases.{no_round}
-use Rattle.configuration.specs.declared.parameters.RoundConfig.{RoundConfig}
+use Rattle.configuration.specs.declared.whir_parameters.RoundConfig.{RoundConfig}
 use Rattle.transcript.specs.Steps.{step_bytes}
 use Rattle.transcript.proofs.Taking.{taken_same}
 use Rattle.transcript.proofs.Describing.{round_taken}

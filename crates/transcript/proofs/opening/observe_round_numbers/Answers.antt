@@ -4,7 +4,7 @@ use Rattle.std.proofs.lemmas.List.{get_or_read}
 use Rattle.sponge.specs.Play.{counted}
 use Rattle.configuration.specs.Numbers.{numbers_of}
 use Rattle.configuration.specs.Phases.{no_round}
-use Rattle.configuration.specs.declared.parameters.RoundConfig.{RoundConfig}
+use Rattle.configuration.specs.declared.whir_parameters.RoundConfig.{RoundConfig}
 use Rattle.transcript.specs.Bytes.{eight}
 use Rattle.transcript.specs.Shape.{round_shape}
 use Rattle.transcript.specs.Instances.{instance_bytes, round_numbers}

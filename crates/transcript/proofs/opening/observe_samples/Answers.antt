@@ -10,14 +10,14 @@ loop-i-preserved g c =
     let m = g.S.Sponge.rules in
     let d = c.args.degree in
     taken_as g.S.Sponge.rules step_bytes _ _ _ _
-    (taken_on g.S.Sponge.rules step_bytes _ _ _ (sample_steps c.args.degree c.loop-i.-i) (drawn_step c.args.degree OodPoint ∷ sent_step c.args.degree 0 OodAnswer ∷ []) c.loop-i.invariant
+    (taken_on g.S.Sponge.rules step_bytes _ _ _ (sample_steps c.args.degree c.loop-i._i) (drawn_step c.args.degree OodPoint ∷ sent_step c.args.degree 0 OodAnswer ∷ []) c.loop-i.invariant
     (taken_on g.S.Sponge.rules step_bytes _ _ _ (drawn_step c.args.degree OodPoint ∷ []) (sent_step c.args.degree 0 OodAnswer ∷ [])
     (taken_same g.S.Sponge.rules step_bytes _ _ _ _ c.observe_step.ensures c.drawn.ensures)
     (taken_same g.S.Sponge.rules step_bytes _ _ _ _ c.observe_step-in-loop-i.ensures c.sent.ensures)))
-    (samples_push c.args.degree c.loop-i.-i)
+    (samples_push c.args.degree c.loop-i._i)
 
 pub loop-i-init : goal.loop-i-init
 loop-i-init g c = taken_none g.S.Sponge.rules step_bytes _
 
 pub returns : goal.returns
-returns g c = samples_all g.S.Sponge.rules _ _ c.args.degree c.loop-i.-i c.args.count c.loop-i-test.false c.loop-i.auto.-i-end c.loop-i.invariant
+returns g c = samples_all g.S.Sponge.rules _ _ c.args.degree c.loop-i._i c.args.count c.loop-i-test.false c.loop-i.auto._i-end c.loop-i.invariant

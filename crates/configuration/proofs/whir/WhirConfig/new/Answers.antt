@@ -31,8 +31,9 @@ returns-in_err-check_phases c =
 
 pub invariant_of-result : goal.invariant_of-result
 invariant_of-result c =
-    let N = numbers_of c.args.numbers in (
-      none_flawless N (passed N (vec_items c.in_ok-schedule.schedule) c.as_slice.result.now (sym c.if-not-within_limits.ensures)
-          c.in_ok-schedule.ensures.answers c.as_slice.ensures.value c.in_ok-check_phases.ensures),
-      tt,
-    )
+    let N = numbers_of c.args.numbers in
+    record {
+      checked =
+          none_flawless N (passed N (vec_items c.in_ok-schedule.schedule) c.as_slice.result.now (sym c.if-not-within_limits.ensures)
+          c.in_ok-schedule.ensures.answers c.as_slice.ensures.value c.in_ok-check_phases.ensures);
+    }

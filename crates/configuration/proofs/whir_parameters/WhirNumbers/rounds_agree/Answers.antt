@@ -3,7 +3,7 @@ use Rattle.configuration.specs.Numbers.{numbers_of}
 use Rattle.configuration.specs.Phases.{every, phase_agrees}
 use Rattle.configuration.proofs.Walks.{every_more, every_stop}
 use Rattle.configuration.proofs.Rounds.{left_more, left_none, agrees_there, ended}
-use Rattle.configuration.proofs.parameters.WhirNumbers.rounds_agree.Goals as goal
+use Rattle.configuration.proofs.whir_parameters.WhirNumbers.rounds_agree.Goals as goal
 
 pub loop-i-init : goal.loop-i-init
 unfolding every
@@ -25,7 +25,7 @@ loop-i-preserved c =
     let ks = c.args.schedule.now in
     let short : c.loop-i.i < length (vec_items c.args.self.now.round_parameters) =
     omega (arith, c.loop-i-test.true, c.len-i-end.ensures, c.args.self.now.round_parameters.ok.0) in
-    let within : c.loop-i.i < length ks = omega (arith, c.requires.0) in (
+    let within : c.loop-i.i < length ks = omega (arith, c.requires.lengths) in (
       c.saturating_sub-left.ensures ∙ left_more N ks c.loop-i.i c.loop-i.left c.loop-i.invariant.0 within,
       every_more (phase_agrees N ks) c.loop-i.i c.loop-i.invariant.1
           (sym (agrees_there N ks c.loop-i.i c.loop-i.left c.rate_before.result c.index.result.now c.loop-i.invariant.0 c.rate_before.ensures

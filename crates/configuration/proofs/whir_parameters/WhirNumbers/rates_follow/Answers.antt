@@ -4,7 +4,7 @@ use Rattle.configuration.specs.Phases.{every, rate_follows}
 use Rattle.configuration.proofs.Walks.{every_more, every_stop}
 use Rattle.configuration.proofs.Rounds.{ended}
 use Rattle.configuration.proofs.Rounds.{follows_so, follows_not}
-use Rattle.configuration.proofs.parameters.WhirNumbers.rates_follow.Goals as goal
+use Rattle.configuration.proofs.whir_parameters.WhirNumbers.rates_follow.Goals as goal
 
 pub loop-i-init : goal.loop-i-init
 unfolding every

@@ -3,7 +3,7 @@ use Rattle.configuration.specs.Numbers.{numbers_of}
 use Rattle.configuration.specs.Phases.{every, opening_within, openings_within, rows_at}
 use Rattle.configuration.proofs.Walks.{every_more, every_stop, every_end}
 use Rattle.configuration.proofs.Rounds.{left_more, left_none, opening_there}
-use Rattle.configuration.proofs.parameters.WhirNumbers.openings_within.Goals as goal
+use Rattle.configuration.proofs.whir_parameters.WhirNumbers.openings_within.Goals as goal
 
 pub loop-i-init : goal.loop-i-init
 unfolding every

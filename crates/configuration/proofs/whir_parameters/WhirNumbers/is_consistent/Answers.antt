@@ -3,13 +3,13 @@ use Rattle.std.proofs.lemmas.Bool.{and_left, and_right, ne_eqb, eq-eqb}
 use Rattle.configuration.specs.Numbers.{numbers_of}
 use Rattle.configuration.specs.Phases.{consistent, same, every, domain_fits, phase_agrees, left}
 use Rattle.configuration.proofs.Rounds.{domains_small, left_all, consistent_last}
-use Rattle.configuration.proofs.parameters.WhirNumbers.is_consistent.Goals as goal
+use Rattle.configuration.proofs.whir_parameters.WhirNumbers.is_consistent.Goals as goal
 
 pub rounds_agree-requires : goal.rounds_agree-requires
-rounds_agree-requires c = (
-  omega (arith, c.args.self.now.round_parameters.ok.0),
-  domains_small (numbers_of c.args.self.now) c.args.schedule.now c.requires (sym c.if-not-domains_fit.ensures),
-)
+rounds_agree-requires c = record {
+  lengths = omega (arith, c.args.self.now.round_parameters.ok.0);
+  domains = domains_small (numbers_of c.args.self.now) c.args.schedule.now c.requires (sym c.if-not-domains_fit.ensures);
+}
 
 stored_same : (c : goal.Then-not-are_same) → same (vec_items c.args.self.now.folding_schedule) c.args.schedule.now ≡ c.are_same.result
 stored_same c = ap (λ l. same l c.args.schedule.now) (sym c.as_slice.ensures.value) ∙ sym c.are_same.ensures

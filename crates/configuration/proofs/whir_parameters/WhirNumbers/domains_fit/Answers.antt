@@ -3,8 +3,8 @@ use Rattle.configuration.specs.Numbers.{numbers_of}
 use Rattle.configuration.specs.Phases.{every, domain_fits}
 use Rattle.configuration.proofs.Walks.{every_more, every_stop}
 use Rattle.configuration.proofs.Rounds.{left_more, left_none, too_wide, fits_so}
-use Rattle.configuration.proofs.parameters.WhirNumbers.domains_fit.Goals as goal
-use Rattle.configuration.proofs.parameters.WhirNumbers.domains_fit.Goals.{then-rate-self-via-then-rate-self, then-rate-self-via-else-rate-self+then-left-self}
+use Rattle.configuration.proofs.whir_parameters.WhirNumbers.domains_fit.Goals as goal
+use Rattle.configuration.proofs.whir_parameters.WhirNumbers.domains_fit.Goals.{then-rate-self-via-then-rate-self, then-rate-self-via-else-rate-self+then-left-self}
 
 pub loop-i-init : goal.loop-i-init
 unfolding every

@@ -1,6 +1,6 @@
 use Rattle.std.proofs.Common.{rules}
 use Rattle.configuration.specs.Limits.{within_limits}
-use Rattle.configuration.proofs.parameters.WhirNumbers.within_limits.Goals as goal
+use Rattle.configuration.proofs.whir_parameters.WhirNumbers.within_limits.Goals as goal
 
 pub returns-then-lists_within : goal.returns-then-lists_within
 unfolding within_limits

@@ -1,7 +1,7 @@
 use Rattle.std.proofs.Common.{◌≡◌, true}
 use Rattle.configuration.specs.Numbers.{numbers_of}
 use Rattle.configuration.specs.Phases.{every, left, opening_within}
-use Rattle.configuration.proofs.parameters.WhirNumbers.openings_within.Given as goal
+use Rattle.configuration.proofs.whir_parameters.WhirNumbers.openings_within.Given as goal
 
 abbrev pub invariant-loop-i : goal.invariant-loop-i
 invariant-loop-i l =

@@ -1,7 +1,7 @@
 use Rattle.std.proofs.Common.{◌-◌, vec_items, sym, ◌∙◌, arith}
 use Rattle.configuration.specs.Numbers.{numbers_of}
 use Rattle.configuration.proofs.Rounds.{read_number, no_number, rate_later}
-use Rattle.configuration.proofs.parameters.WhirNumbers.rate_before.Goals as goal
+use Rattle.configuration.proofs.whir_parameters.WhirNumbers.rate_before.Goals as goal
 
 pub returns-then-round-len : goal.returns-then-round-len
 returns-then-round-len c =

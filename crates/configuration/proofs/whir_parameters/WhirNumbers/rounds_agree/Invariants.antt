@@ -1,7 +1,7 @@
 use Rattle.std.proofs.Common.{◌≡◌, true}
 use Rattle.configuration.specs.Numbers.{numbers_of}
 use Rattle.configuration.specs.Phases.{every, left, phase_agrees}
-use Rattle.configuration.proofs.parameters.WhirNumbers.rounds_agree.Given as goal
+use Rattle.configuration.proofs.whir_parameters.WhirNumbers.rounds_agree.Given as goal
 
 abbrev pub invariant-loop-i : goal.invariant-loop-i
 invariant-loop-i l =

@@ -1,7 +1,7 @@
 use Rattle.std.proofs.Common.{vec_items, arith}
 use Rattle.configuration.proofs.Rounds.{read_number, no_number}
-use Rattle.configuration.specs.declared.parameters.RoundConfig.{RoundConfig}
-use Rattle.configuration.proofs.parameters.WhirNumbers.queries_of.Goals as goal
+use Rattle.configuration.specs.declared.whir_parameters.RoundConfig.{RoundConfig}
+use Rattle.configuration.proofs.whir_parameters.WhirNumbers.queries_of.Goals as goal
 
 pub returns-then-phase-len : goal.returns-then-phase-len
 returns-then-phase-len c =
