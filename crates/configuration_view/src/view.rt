@@ -8,8 +8,8 @@ ghost use Rattle.configuration_view.specs.Shown.{phase_from, phase_of, phases_of
 
 use crate::phases::{Buffers, Phase, View};
 use configuration::checks::query_draws;
-use configuration::whir_parameters::{RoundConfig, WhirNumbers};
 use configuration::whir::WhirConfig;
+use configuration::whir_parameters::{RoundConfig, WhirNumbers};
 use std::alloc::{AllocError, Global};
 
 // A phase by its variables, rate, factor and queries.
@@ -83,8 +83,8 @@ fn rows_in(phases: &[Phase]) -> usize
 }
 
 fn buffers_for(numbers: &WhirNumbers, phases: &[Phase]) -> Buffers
-    requires numbers_value { flawless (numbers_of numbers.now) ≡ true }
-    requires phases_value { phases.now ≡ phases_of (numbers_of numbers.now) }
+    requires checked { flawless (numbers_of numbers.now) ≡ true }
+    requires stored { phases.now ≡ phases_of (numbers_of numbers.now) }
     ensures { result ≡ buffers_of (numbers_of numbers.now) }
 {
     let largest = largest_of(numbers.folding_schedule.as_slice());

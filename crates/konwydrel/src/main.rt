@@ -3,8 +3,8 @@
 
 use anyhow::anyhow;
 use configuration::errors::WhirConfigError;
-use configuration::whir_parameters::WhirNumbers;
 use configuration::whir::WhirConfig;
+use configuration::whir_parameters::WhirNumbers;
 use configuration_view::phases::{Buffers, Phase};
 use configuration_view::refusals::RefusalLine;
 use configuration_view::view::view_of;

@@ -24,7 +24,7 @@ use sponge::Sponge;
 
 // One step is observed.
 fn observe_step<S: Sponge>(sponge: &mut S, step: Interaction)
-    ensures { held sponge.new ≡ taken rules step_bytes (S.Sponge.held sponge.old) (step_of step ∷ []) }
+    ensures { S.Sponge.held sponge.new ≡ taken S.Sponge.rules step_bytes (S.Sponge.held sponge.old) (step_of step ∷ []) }
 {
     let piece = step.encode();
     sponge.observe(piece.as_slice());
@@ -32,7 +32,7 @@ fn observe_step<S: Sponge>(sponge: &mut S, step: Interaction)
 
 // The opener and the closer of a sumcheck that is delegated.
 fn observe_bracket<S: Sponge>(sponge: &mut S, label: Label)
-    ensures { held sponge.new ≡ taken rules step_bytes (S.Sponge.held sponge.old) (bracket label) }
+    ensures { S.Sponge.held sponge.new ≡ taken S.Sponge.rules step_bytes (S.Sponge.held sponge.old) (bracket label) }
 {
     observe_step(sponge, Interaction::marker(Hierarchy::Begin, label));
     observe_step(sponge, Interaction::marker(Hierarchy::End, label));
@@ -40,7 +40,7 @@ fn observe_bracket<S: Sponge>(sponge: &mut S, label: Label)
 
 // Point and answer alternate: each answer is bound before the next draw.
 fn observe_samples<S: Sponge>(sponge: &mut S, degree: usize, count: usize)
-    ensures { held sponge.new ≡ taken rules step_bytes (S.Sponge.held sponge.old) (sample_steps degree count) }
+    ensures { S.Sponge.held sponge.new ≡ taken S.Sponge.rules step_bytes (S.Sponge.held sponge.old) (sample_steps degree count) }
 {
     for _i in 0..count {
         observe_step(sponge, Interaction::drawn(degree, Label::OodPoint));
@@ -50,7 +50,7 @@ fn observe_samples<S: Sponge>(sponge: &mut S, degree: usize, count: usize)
 
 // A zero-difficulty grind is not a step.
 fn observe_pow<S: Sponge>(sponge: &mut S, bits: usize, label: Label)
-    ensures { held sponge.new ≡ taken rules step_bytes (S.Sponge.held sponge.old) (grinding_steps bits label) }
+    ensures { S.Sponge.held sponge.new ≡ taken S.Sponge.rules step_bytes (S.Sponge.held sponge.old) (grinding_steps bits label) }
 {
     if bits != 0 {
         observe_step(sponge, Interaction::pow(bits, label));
@@ -59,7 +59,7 @@ fn observe_pow<S: Sponge>(sponge: &mut S, bits: usize, label: Label)
 
 // One fixed-width draw for each summand of a stratified query schedule, the depths peeled one by one.
 fn observe_strata<S: Sponge>(sponge: &mut S, width: usize, draws: usize, label: Label)
-    ensures { held sponge.new ≡ taken rules step_bytes (S.Sponge.held sponge.old) (query_steps true width draws (depths draws) label) }
+    ensures { S.Sponge.held sponge.new ≡ taken S.Sponge.rules step_bytes (S.Sponge.held sponge.old) (query_steps true width draws (depths draws) label) }
 {
     let mut remaining = draws;
     while remaining != 0 {
@@ -81,7 +81,7 @@ fn observe_indices<S: Sponge>(
     draws: usize,
     label: Label,
 )
-    ensures { held sponge.new ≡ taken rules step_bytes (S.Sponge.held sponge.old) (query_steps stratified width draws (depths draws) label) }
+    ensures { S.Sponge.held sponge.new ≡ taken S.Sponge.rules step_bytes (S.Sponge.held sponge.old) (query_steps stratified width draws (depths draws) label) }
 {
     if stratified {
         observe_strata(sponge, width, draws, label);
@@ -93,7 +93,7 @@ fn observe_indices<S: Sponge>(
 // One round's steps.
 fn observe_round<S: Sponge>(sponge: &mut S, config: &WhirConfig, degree: usize, round: usize)
     requires { round < length config.now.numbers.round_parameters.items }
-    ensures { held sponge.new ≡ taken rules step_bytes (S.Sponge.held sponge.old) (round_steps degree (round_shape (numbers_of config.now.numbers) round)) }
+    ensures { S.Sponge.held sponge.new ≡ taken S.Sponge.rules step_bytes (S.Sponge.held sponge.old) (round_steps degree (round_shape (numbers_of config.now.numbers) round)) }
 {
     let samples = config.numbers.round_parameters[round].ood_samples;
     let site = query_site(config, round);
@@ -113,7 +113,7 @@ fn observe_round<S: Sponge>(sponge: &mut S, config: &WhirConfig, degree: usize, 
 
 // The steps of all rounds.
 fn observe_rounds<S: Sponge>(sponge: &mut S, config: &WhirConfig, degree: usize)
-    ensures { held sponge.new ≡ taken rules step_bytes (S.Sponge.held sponge.old) (flat_map (round_steps degree) (map (round_shape (numbers_of config.now.numbers)) (counted 0 (length config.now.numbers.round_parameters.items)))) }
+    ensures { S.Sponge.held sponge.new ≡ taken S.Sponge.rules step_bytes (S.Sponge.held sponge.old) (flat_map (round_steps degree) (map (round_shape (numbers_of config.now.numbers)) (counted 0 (length config.now.numbers.round_parameters.items)))) }
 {
     for round in 0..config.numbers.round_parameters.len() {
         observe_round(sponge, config, degree, round);
@@ -122,7 +122,7 @@ fn observe_rounds<S: Sponge>(sponge: &mut S, config: &WhirConfig, degree: usize)
 
 // The steps of the final phase.
 fn observe_final<S: Sponge>(sponge: &mut S, config: &WhirConfig, degree: usize)
-    ensures { (claims : ℕ) → held sponge.new ≡ taken rules step_bytes (S.Sponge.held sponge.old) (final_steps degree (shape (numbers_of config.now.numbers) claims)) }
+    ensures { (claims : ℕ) → S.Sponge.held sponge.new ≡ taken S.Sponge.rules step_bytes (S.Sponge.held sponge.old) (final_steps degree (shape (numbers_of config.now.numbers) claims)) }
 {
     let numbers = &config.numbers;
     let site = query_site(config, numbers.round_parameters.len());
@@ -143,7 +143,7 @@ fn observe_final<S: Sponge>(sponge: &mut S, config: &WhirConfig, degree: usize)
 
 // Numbers, each an instance of eight bytes.
 fn observe_numbers<S: Sponge>(sponge: &mut S, numbers: &[usize])
-    ensures { held sponge.new ≡ taken rules instance_bytes (S.Sponge.held sponge.old) (map eight numbers.now) }
+    ensures { S.Sponge.held sponge.new ≡ taken S.Sponge.rules instance_bytes (S.Sponge.held sponge.old) (map eight numbers.now) }
 {
     for number in numbers {
         let piece = Piece::instance(&number.to_be_bytes());
@@ -154,7 +154,7 @@ fn observe_numbers<S: Sponge>(sponge: &mut S, numbers: &[usize])
 // The domain's name and whether its queries are stratified, if it has a name.
 fn observe_domain<S: Sponge>(sponge: &mut S, id: &[u8], stratified: bool)
     requires { length id.now ≤ 32 }
-    ensures { held sponge.new ≡ taken rules instance_bytes (S.Sponge.held sponge.old) (domain_instances id.now stratified) }
+    ensures { S.Sponge.held sponge.new ≡ taken S.Sponge.rules instance_bytes (S.Sponge.held sponge.old) (domain_instances id.now stratified) }
 {
     if !id.is_empty() {
         let name = Piece::instance(id);
@@ -166,7 +166,7 @@ fn observe_domain<S: Sponge>(sponge: &mut S, id: &[u8], stratified: bool)
 
 // The folding strategy: its variant, then the numbers it carries.
 fn observe_strategy<S: Sponge>(sponge: &mut S, factor: &FoldingFactor)
-    ensures { held sponge.new ≡ taken rules instance_bytes (S.Sponge.held sponge.old) (map eight (strategy_numbers (strategy_of factor.now))) }
+    ensures { S.Sponge.held sponge.new ≡ taken S.Sponge.rules instance_bytes (S.Sponge.held sponge.old) (map eight (strategy_numbers (strategy_of factor.now))) }
 {
     match factor {
         FoldingFactor::Constant(f) => observe_numbers(sponge, &[0, *f]),
@@ -182,7 +182,7 @@ fn observe_strategy<S: Sponge>(sponge: &mut S, factor: &FoldingFactor)
 
 // Each round commits at its own rate, and its sumcheck has its own numbers.
 fn observe_round_numbers<S: Sponge>(sponge: &mut S, config: &WhirConfig)
-    ensures { held sponge.new ≡ taken rules instance_bytes (S.Sponge.held sponge.old) (map eight (flat_map round_numbers (map (round_shape (numbers_of config.now.numbers)) (counted 0 (length config.now.numbers.round_parameters.items))))) }
+    ensures { S.Sponge.held sponge.new ≡ taken S.Sponge.rules instance_bytes (S.Sponge.held sponge.old) (map eight (flat_map round_numbers (map (round_shape (numbers_of config.now.numbers)) (counted 0 (length config.now.numbers.round_parameters.items))))) }
 {
     for round in 0..config.numbers.round_parameters.len() {
         let difficulty = config.numbers.round_parameters[round].folding_pow_bits;
@@ -193,7 +193,7 @@ fn observe_round_numbers<S: Sponge>(sponge: &mut S, config: &WhirConfig)
 
 // The instances, in order.
 fn observe_instances<S: Sponge>(sponge: &mut S, config: &WhirConfig, num_opening_claims: usize)
-    ensures { held sponge.new ≡ taken rules instance_bytes (S.Sponge.held sponge.old) (instances (shape (numbers_of config.now.numbers) num_opening_claims)) }
+    ensures { S.Sponge.held sponge.new ≡ taken S.Sponge.rules instance_bytes (S.Sponge.held sponge.old) (instances (shape (numbers_of config.now.numbers) num_opening_claims)) }
 {
     let numbers = &config.numbers;
     let factor = factor_of(config, 0);

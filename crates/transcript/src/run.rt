@@ -90,7 +90,7 @@ impl Run {
     // The bracket of the sumcheck that closes the run: whether there is one.
     pub fn delegate_final_fold<S: Sponge>(&self, sponge: &mut S, config: &WhirConfig) -> bool
         ensures fold { result ≡ not (nat_eq config.now.numbers.final_sumcheck_rounds 0) }
-        ensures plays { Plays {R = ⊥} rules (S.Sponge.held sponge.old) (answering result) (Ok result) (S.Sponge.held sponge.new) }
+        ensures plays { Plays {R = ⊥} S.Sponge.rules (S.Sponge.held sponge.old) (answering result) (Ok result) (S.Sponge.held sponge.new) }
     {
         config.numbers.final_sumcheck_rounds != 0
     }

@@ -9,12 +9,12 @@ phases_by-requires c =
     c.as_slice-schedule.ensures.value
 
 pub buffers_for-buffers-requires : goal.buffers_for-buffers-requires
-buffers_for-buffers-requires c = (
-  c.args.config.now.checked,
-  c.as_slice.ensures.value
+buffers_for-buffers-requires c = record {
+  checked = c.args.config.now.checked;
+  stored = c.as_slice.ensures.value
       ∙ phases_stored (numbers_of c.args.config.now.numbers) c.as_slice-schedule.result.now (vec_items c.in_ok-phases.phases)
-      c.in_ok-phases.ensures c.as_slice-schedule.ensures.value,
-)
+      c.in_ok-phases.ensures c.as_slice-schedule.ensures.value;
+}
 
 pub returns : goal.returns
 returns c = record {

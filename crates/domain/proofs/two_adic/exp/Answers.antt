@@ -18,7 +18,7 @@ loop-left-preserved g c =
     let t = c.mul-square.result in
     let w = pow F c.args.base c.args.exponent in
     elim c.if-left-eq1.branch [
-      | then-left-eq1 v ↦ odd_turn F L p s c.if-left-eq1.power t w n v.if-left-eq1.true (v.power-is ∙ v.mul_power.ensures) c.mul-square.ensures c.loop-left.invariant
+      | then-left-eq1 v ↦ odd_turn F L p s c.if-left-eq1.power t w n v.if-left-eq1.true (v.power-is ∙ v.mul-power.ensures) c.mul-square.ensures c.loop-left.invariant
       | else-left-eq1 v ↦
           ap (λ q. F.mul q (pow F t (n / 2))) v.power-is ∙ even_turn F L p s t w n v.if-left-eq1.false c.mul-square.ensures c.loop-left.invariant
     ]
