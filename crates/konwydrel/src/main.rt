@@ -46,7 +46,7 @@ fn run(rt: &HostRuntime) -> anyhow::Result<()> {
         return Ok(println!(rt; "{USAGE}")?);
     }
     match requested(rt.alloc(), words.as_slice())? {
-        Request::Usage => Err(USAGE.into()),
+        Request::Usage => Err(anyhow!("{USAGE}")),
         Request::Limit => Ok(println!(rt; "1 Limit")?),
         Request::Schedule(num_variables, strategy) => schedule(rt, num_variables, &strategy),
         Request::Config => config(rt, words.as_slice()),
@@ -155,15 +155,12 @@ fn print_line(rt: &HostRuntime, numbers: &[usize]) -> anyhow::Result<()> {
 // The configuration of the file that the second word names: its schedule, phases and buffers, or the refusal.
 fn config(rt: &HostRuntime, words: &[String]) -> anyhow::Result<()> {
     let [_, path] = words else {
-        return Err(USAGE.into());
+        return Err(anyhow!("{USAGE}"));
     };
     let text = fs::read(rt, path.as_str())?;
     match read_configuration(rt.alloc(), text.as_slice()) {
         Ok(numbers) => print_config(rt, numbers),
-        Err(fault) => {
-            let line = format!(in rt.alloc(); "{fault}")?;
-            Err(line.into())
-        }
+        Err(fault) => Err(anyhow!("{fault}")),
     }
 }
 
