@@ -1,5 +1,5 @@
 -- Completeness, forwards from the claims.
-use Rattle.std.proofs.Common.{◌≡◌, ℕ, zero, ◌^◌, List, ◌++◌, map, length, sym, ap, ◌∙◌, append-nil}
+use Rattle.std.proofs.Common.{◌≡◌, ℕ, ◌^◌, List, ◌++◌, map, length, sym, ap, ◌∙◌, append-nil}
 use Rattle.ring.specs.Ring.{Ops, IsRing}
 use Rattle.field.specs.Laws.{IsField}
 use Rattle.multilinear.specs.declared.order.VariableOrder.{VariableOrder}

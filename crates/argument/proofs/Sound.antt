@@ -1,5 +1,5 @@
 -- Soundness, backwards from the closing check.
-use Rattle.std.proofs.Common.{◌≡◌, ℕ, zero, ◌^◌, ◌<◌, ◌⊎◌, List, [], ◌∷◌, ◌++◌, map, length, sym, ap, ◌∙◌, subst, inl, inr, append-nil, arith}
+use Rattle.std.proofs.Common.{◌≡◌, ℕ, ◌^◌, ◌<◌, ◌⊎◌, List, [], ◌∷◌, ◌++◌, map, length, sym, ap, ◌∙◌, subst, inl, inr, append-nil, arith}
 use mathlib.Core.List.{List-discrete}
 use Rattle.ring.specs.Ring.{Ops, IsRing}
 use Rattle.field.specs.Laws.{IsField}
@@ -7,7 +7,6 @@ use Rattle.multilinear.specs.declared.order.VariableOrder.{VariableOrder}
 use Rattle.std.specs.List.{AllByRecursion as All}
 use Rattle.argument.specs.Roots.{Any, Root}
 use Rattle.multilinear.specs.Tables.{orient, cube, view, position, folded, row}
-use Rattle.ring.specs.Polynomials.{value as at}
 use Rattle.multilinear.specs.Laws.{Multilinear}
 use Rattle.multilinear.proofs.Algebra as A
 use Rattle.multilinear.proofs.Sums as S

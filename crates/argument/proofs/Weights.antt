@@ -1,5 +1,5 @@
 -- Claims under the powers of a challenge, in the order of the draws.
-use Rattle.std.proofs.Common.{◌≡◌, ℕ, zero, suc, ◌^◌, ◌⊎◌, List, [], ◌∷◌, ◌++◌, map, length, sym, refl, ap, ◌∙◌, ap₂, inl, inr}
+use Rattle.std.proofs.Common.{◌≡◌, ℕ, suc, ◌^◌, ◌⊎◌, List, [], ◌∷◌, ◌++◌, map, length, sym, refl, ap, ◌∙◌, ap₂, inl, inr}
 use mathlib.Core.Path.{fun_ext}
 use Rattle.ring.specs.Ring.{Ops, IsRing}
 use Rattle.field.specs.Laws.{IsField}

@@ -4,7 +4,6 @@ use Rattle.ring.specs.Ring.{Ops}
 use Rattle.multilinear.specs.declared.order.VariableOrder.{VariableOrder}
 use Rattle.std.specs.List.{AllByRecursion as All}
 use Rattle.multilinear.specs.Tables.{cube, value, view, position}
-use Rattle.ring.specs.Polynomials.{value as at}
 use Rattle.multilinear.specs.Laws.{Multilinear}
 use Rattle.argument.specs.Roots.{Root}
 use Rattle.argument.specs.Sumcheck.{Step, draws, before, after, TrueSteps, MessageRoot}

@@ -1,10 +1,9 @@
 -- A run over its numbers alone, as it is read: claims, challenges, opened rows with their points, the final polynomial. No sponge.
-use Rattle.std.specs.Prelude.{◌≡◌, ℕ, zero, List, ◌++◌, map}
+use Rattle.std.specs.Prelude.{◌≡◌, ℕ, List, ◌++◌, map}
 use Rattle.ring.specs.Ring.{Ops}
 use Rattle.multilinear.specs.declared.order.VariableOrder.{VariableOrder}
 use Rattle.std.specs.List.{AllByRecursion as All}
 use Rattle.multilinear.specs.Tables.{orient, value, view}
-use Rattle.ring.specs.Polynomials.{value as at}
 use Rattle.argument.specs.Sumcheck.{Step, draws, before, after}
 use Rattle.argument.specs.Claims.{Claim, TrueOf, at_position, batched, weight_at, joined}
 

@@ -5,7 +5,7 @@ use Rattle.ring.specs.Polynomials.{value as at}
 use Rattle.field.specs.declared.residue.Residue.{Residue}
 use Rattle.field.specs.Residues.{reduce, ops_257}
 use Rattle.multilinear.specs.declared.order.VariableOrder.TheVariants.{Prefix, Suffix}
-use Rattle.multilinear.specs.Tables.{eq, value, view, position, folded, row}
+use Rattle.multilinear.specs.Tables.{eq, value, view, folded, row}
 use Rattle.multilinear.specs.Univariate.{expand}
 use Rattle.std.specs.List.{AllByRecursion as All}
 use Rattle.argument.specs.Sumcheck.{Step, draws, message, true0, true2, TrueSteps}

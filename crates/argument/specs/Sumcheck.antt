@@ -2,7 +2,7 @@
 --
 -- A sum of W(x)·g(x) over the corners x is claimed, W and g being functions of the draws. Each step sends h0 and h2, draws r, and goes
 -- on with the first free variable bound at r: binding is application, so W is followed by x ↦ W(r, x).
-use Rattle.std.specs.Prelude.{◌≡◌, ℕ, zero, suc, List, [], ◌∷◌, map}
+use Rattle.std.specs.Prelude.{◌≡◌, ℕ, suc, List, [], ◌∷◌, map}
 use Rattle.ring.specs.Ring.{Ops}
 use Rattle.multilinear.specs.Tables.{cube}
 use Rattle.ring.specs.Polynomials.{value as at, minus}

@@ -3,7 +3,7 @@ use Rattle.std.proofs.Common.{◌≡◌, ℕ, zero, suc, ◌+◌, ◌-◌, ◌*�
 use Rattle.std.proofs.lemmas.List.FromFn.{get_or-map-range_with_len}
 use Rattle.std.proofs.lemmas.List.{ext_get_or, get_or-take, get_or-drop, get_or_append_left, get_or-append_right, get_or-replicate, get_or_past}
 use Rattle.std.proofs.lemmas.Bool.{cases_lt, cases_order}
-use Rattle.blake2s.specs.Blake2s.{words, word_at, padded, block, chain, counter, before, digest, hash}
+use Rattle.blake2s.specs.Blake2s.{words, word_at, padded, block, chain, before, digest, hash}
 use Rattle.blake2s.specs.Laws.{Bytes, Call, inner, ending, Clash, CollisionsAreOfCompression}
 
 -- two lists are equal or not

@@ -1,9 +1,8 @@
 -- Rows of coefficients. Assumes nothing.
-use Rattle.std.proofs.Common.{◌≡◌, ℕ, zero, suc, ◌+◌, ◌*◌, ◌<◌, ◌≤◌, Bool, true, false, ◌&&◌, eqb, ◌⊎◌, List, [], ◌∷◌, ◌++◌, map, length, get_or, take, drop, sym, refl, ap, ◌∙◌, subst, inl, inr, ⊎_elim, append_assoc, not-suc-le-zero, mul-le-mul_right, mul_assoc, suc-mul, add_comm, zero-mul, arith, length-append}
+use Rattle.std.proofs.Common.{◌≡◌, ℕ, zero, suc, ◌+◌, ◌*◌, ◌<◌, ◌≤◌, true, ◌&&◌, eqb, ◌⊎◌, List, [], ◌∷◌, ◌++◌, map, length, take, drop, sym, refl, ap, ◌∙◌, subst, inl, inr, ⊎_elim, append_assoc, not-suc-le-zero, mul-le-mul_right, mul_assoc, suc-mul, zero-mul, arith, length-append}
 use Rattle.std.proofs.lemmas.List.{get_or-map, length-map, get_or_past}
 use Rattle.std.proofs.lemmas.Bool.{cases_lt, cases_order}
-use Rattle.ring.specs.Ring.{Ops}
-use Rattle.field.specs.Extension.{Extension, Extends, Sized}
+use Rattle.field.specs.Extension.{Extension, Sized}
 use Rattle.commit.specs.Opening.{Meaning, Laws, Collision, row_of, Wide, piece, rows_right, opens}
 use Rattle.commit.specs.Spread.{spread, extended}
 use Rattle.commit.proofs.Lists.{eqb_same, append_inj, take_past, drop_past}

@@ -1,5 +1,5 @@
 -- Both laws of commitments by a tree of digests. Assumes nothing.
-use Rattle.std.proofs.Common.{◌≡◌, ℕ, ◌*◌, ◌^◌, ◌<◌, ◌≤◌, Bool, true, false, ◌&&◌, eqb, ◌⊎◌, List, [], ◌∷◌, ◌++◌, map, length, get_or, sym, refl, ap, ◌∙◌, subst, inl, inr, ⊎_elim, not-suc-le-zero, arith, length-append}
+use Rattle.std.proofs.Common.{◌≡◌, ℕ, ◌^◌, ◌<◌, Bool, true, false, ◌&&◌, eqb, ◌⊎◌, List, [], ◌∷◌, ◌++◌, map, length, get_or, sym, refl, ap, ◌∙◌, subst, inl, inr, ⊎_elim, not-suc-le-zero, arith}
 use mathlib.Core.List.Memᴰ
 use mathlib.Core.List.{Memᴰ}
 use Rattle.std.specs.Str.{bytes_eq}
@@ -12,8 +12,8 @@ use Rattle.ring.specs.Ring.{Ops}
 use Rattle.field.specs.Numbers.{Numbering, Numbers}
 use Rattle.field.specs.Bytes.{word_bytes, little_endian, coefficients_bytes}
 use Rattle.field.proofs.Encoding.{number_of_bytes}
-use Rattle.commit.specs.Opening.{Laws, Collision, Wide, row_of}
-use Rattle.commit.specs.Tree.{levels, climbs, climbed_lists, root_of, siblings, paired_lists, leaves, merkle, RootOf}
+use Rattle.commit.specs.Opening.{Laws, Collision, row_of}
+use Rattle.commit.specs.Tree.{levels, climbs, climbed_lists, siblings, paired_lists, leaves, merkle, RootOf}
 use Rattle.commit.proofs.Lists.{append_inj, member}
 use Rattle.commit.proofs.Trees.{Level, climbs_own, climbs_inside, climbs_long, climbs_bound, length_siblings}
 

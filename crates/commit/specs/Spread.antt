@@ -1,5 +1,5 @@
 -- Rows of an extension's elements as rows of their coefficients. Assumes nothing.
-use Rattle.std.specs.Prelude.{ℕ, ◌*◌, List, [], ◌∷◌, ◌++◌, map}
+use Rattle.std.specs.Prelude.{◌*◌, List, [], ◌∷◌, ◌++◌, map}
 use Rattle.field.specs.Extension.{Extension}
 use Rattle.commit.specs.Opening.{Meaning}
 

@@ -1,15 +1,15 @@
 -- What the checks come to: the phases of a configuration without a fault.
-use Rattle.std.proofs.Common.{◌≡◌, ℕ, suc, ◌+◌, ◌-◌, ◌^◌, ◌<◌, ◌≤◌, Bool, true, false, cond, ◌&&◌, eqb, leb, ◌⊎◌, List, [], ◌∷◌, length, get_or, take, Some, None, sum, Option, sym, refl, ap, ◌∙◌, subst, inl, inr, ⊎_elim, add-one, arith, pow_pos}
+use Rattle.std.proofs.Common.{◌≡◌, ℕ, suc, ◌+◌, ◌^◌, ◌<◌, ◌≤◌, true, eqb, leb, List, length, Some, None, sum, sym, refl, ◌∙◌, ⊎_elim, add-one, arith, pow_pos}
 use Rattle.std.proofs.ByRecursion.{All-get_or}
 use Rattle.std.proofs.lemmas.List.Sums.{sum_by_more, sum_by-take-le}
 use Rattle.std.proofs.lemmas.Bool.{and_parts, eqb-true, eqb-false, leb-true, cases_Bool, cond-true, cond-false}
 use Rattle.parameters.specs.Refusals.{Refusal}
-use Rattle.parameters.specs.Schedule.{schedule, Verdict, planned, refused, Lawful}
+use Rattle.parameters.specs.Schedule.{schedule, Verdict, planned, refused}
 use Rattle.parameters.proofs.Laws.{schedules_lawful}
 use Rattle.configuration.specs.Numbers.{Numbers}
 use Rattle.configuration.specs.Limits.{within_limits}
-use Rattle.configuration.specs.Phases.{same, every, factor, left, rate, rates_agree, log_domain, log_positions_of, domain_fits, phase_agrees, opening_within, consistent, openings_within, rows, rows_at, query_draws, queries}
-use Rattle.configuration.specs.Verdicts.{fault, fault_of_plan, fault_of_phases, limit, inconsistent, Checked, Phased, ConfigurationsPhased}
+use Rattle.configuration.specs.Phases.{same, every, factor, left, rates_agree, log_positions_of, domain_fits, phase_agrees, opening_within, consistent, openings_within, rows_at, query_draws, queries}
+use Rattle.configuration.specs.Verdicts.{fault, fault_of_plan, limit, inconsistent, Checked, Phased, ConfigurationsPhased}
 use Rattle.configuration.proofs.Walks.{every_at, same_true}
 use Rattle.configuration.proofs.Rounds.{capacity_small}
 

@@ -1,5 +1,5 @@
 -- Facts of a checked configuration that its accessors rest on.
-use Rattle.std.proofs.Common.{◌≡◌, ℕ, zero, suc, ◌+◌, ◌-◌, ◌^◌, ◌<◌, ◌≤◌, min, max, Bool, true, false, cond, not, ◌&&◌, ltb, leb, ◌⊎◌, List, [], ◌∷◌, map, length, get_or, take, is_some, Some, None, fold, sum, Option, unwrap_or, sym, refl, ap, ◌∙◌, subst, inl, inr, ⊎_elim, add-one, arith}
+use Rattle.std.proofs.Common.{◌≡◌, ℕ, zero, suc, ◌+◌, ◌-◌, ◌^◌, ◌<◌, ◌≤◌, min, max, true, not, ◌&&◌, ltb, leb, List, [], ◌∷◌, map, length, get_or, take, is_some, Some, None, fold, sum, Option, unwrap_or, sym, refl, ap, ◌∙◌, subst, ⊎_elim, add-one, arith}
 use Rattle.std.specs.List.{slice_get}
 use Rattle.std.proofs.lemmas.List.{take_all, take_more, map_push}
 use Rattle.std.proofs.lemmas.List.Sums.{sum_by_more, sum_by-take-le, fold_push}
@@ -9,7 +9,7 @@ use Rattle.parameters.specs.Refusals.{Refusal}
 use Rattle.configuration.specs.Numbers.{Numbers}
 use Rattle.configuration.specs.Limits.{within_limits, sizes_within, difficulties_within, others_within, at_most, factors_of}
 use Rattle.configuration.specs.Phases.{left, rate, factor, log_domain, log_positions_of, no_round}
-use Rattle.configuration.specs.Verdicts.{fault, flawless, Checked, Phased}
+use Rattle.configuration.specs.Verdicts.{fault, flawless, Phased}
 use Rattle.configuration.specs.Views.{reduction, hardest_of, final_round}
 use Rattle.configuration.proofs.Phased.{checked, phased}
 

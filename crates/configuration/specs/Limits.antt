@@ -1,5 +1,5 @@
 -- Limits on the numbers given.
-use Rattle.std.specs.Prelude.{ℕ, Bool, true, ◌&&◌, leb, List, [], ◌∷◌, ◌++◌, length, nat_le}
+use Rattle.std.specs.Prelude.{ℕ, Bool, true, ◌&&◌, leb, List, [], ◌∷◌, length, nat_le}
 use Rattle.parameters.specs.Schedule.{Strategy, constant, second, per_round}
 use Rattle.configuration.specs.Numbers.{Numbers}
 use Rattle.configuration.specs.declared.whir_parameters.RoundConfig.{RoundConfig}

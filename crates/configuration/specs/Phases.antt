@@ -1,5 +1,5 @@
 -- The phases of a run: what is left before each, its rate, its positions, and when the numbers belong together.
-use Rattle.std.specs.Prelude.{◌≡◌, ℕ, zero, suc, ◌+◌, ◌-◌, ◌^◌, ◌<◌, ◌≤◌, Bool, true, false, cond, ◌&&◌, ◌||◌, List, [], ◌∷◌, map, length, take, sum, ◌==◌, nat_le, slice_index, slice_index_or}
+use Rattle.std.specs.Prelude.{ℕ, zero, suc, ◌+◌, ◌-◌, ◌^◌, Bool, true, false, cond, ◌&&◌, ◌||◌, List, [], ◌∷◌, map, length, take, sum, ◌==◌, nat_le, slice_index, slice_index_or}
 use Rattle.configuration.specs.Numbers.{Numbers}
 use Rattle.configuration.specs.declared.whir_parameters.RoundConfig.{RoundConfig}
 

@@ -1,7 +1,7 @@
 -- Whether numbers make a configuration: the first check that fails, in order.
-use Rattle.std.specs.Prelude.{◌≡◌, ℕ, suc, ◌+◌, ◌<◌, ◌≤◌, Bool, true, false, cond, not, List, [], length, is_some, Some, None, sum, Option}
+use Rattle.std.specs.Prelude.{◌≡◌, ℕ, suc, ◌+◌, ◌<◌, ◌≤◌, Bool, true, cond, not, List, [], length, is_some, Some, None, sum, Option}
 use Rattle.parameters.specs.Refusals.{Refusal, refusal}
-use Rattle.parameters.specs.Schedule.{schedule, Verdict, planned, refused, Lawful}
+use Rattle.parameters.specs.Schedule.{schedule, Verdict, planned, refused}
 use Rattle.configuration.specs.Numbers.{Numbers}
 use Rattle.configuration.specs.Limits.{within_limits}
 use Rattle.configuration.specs.Phases.{consistent, openings_within, left, rate, factor, log_domain, log_positions_of, rows}

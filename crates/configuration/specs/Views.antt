@@ -1,5 +1,5 @@
 -- Numbers that follow from a configuration's.
-use Rattle.std.specs.Prelude.{ℕ, suc, ◌+◌, ◌-◌, ◌^◌, max, cond, List, [], ◌∷◌, map, length, Some, None, fold, sum, Option, nat_lt}
+use Rattle.std.specs.Prelude.{ℕ, suc, ◌+◌, ◌-◌, ◌^◌, max, cond, map, length, Some, None, fold, Option, nat_lt}
 use Rattle.configuration.specs.declared.whir_parameters.RoundConfig.{RoundConfig}
 use Rattle.configuration.specs.declared.whir_parameters.SecurityAssumption.{SecurityAssumption}
 use Rattle.configuration.specs.declared.whir_parameters.SecurityAssumption.TheVariants.{UniqueDecoding, JohnsonBound, CapacityBound}

@@ -1,5 +1,5 @@
 -- The sums and powers fit.
-use Rattle.std.proofs.Common.{◌≡◌, ℕ, zero, suc, ◌+◌, ◌-◌, ◌*◌, ◌%◌, ◌^◌, ◌<◌, ◌≤◌, min, max, Bool, true, false, not, ◌&&◌, leb, List, [], ◌∷◌, ◌++◌, map, length, get_or, take, is_some, Some, None, fold, sum_by, Option, sym, refl, ap, ◌∙◌, subst, mod-eq_of_lt, one-mul, add-one, arith}
+use Rattle.std.proofs.Common.{◌≡◌, ℕ, zero, suc, ◌+◌, ◌-◌, ◌*◌, ◌%◌, ◌^◌, ◌<◌, ◌≤◌, min, max, true, not, ◌&&◌, leb, List, [], ◌∷◌, ◌++◌, map, length, get_or, take, is_some, Some, None, fold, sum_by, Option, sym, refl, ap, ◌∙◌, mod-eq_of_lt, one-mul, add-one, arith}
 use lib.Pow.{pow-lt}
 use Rattle.std.specs.List.{range_with_len}
 use Rattle.std.proofs.lemmas.List.{take_more, take_all}
@@ -9,8 +9,8 @@ use Rattle.std.proofs.lemmas.Bool.{and_parts, leb-true}
 use Rattle.configuration.specs.declared.whir_parameters.RoundConfig.{RoundConfig}
 use Rattle.configuration.specs.Numbers.{Numbers}
 use Rattle.configuration.specs.Limits.{within_limits, round_within, all_by, at_most, sizes_within, difficulties_within, others_within, lists_within}
-use Rattle.configuration.specs.Phases.{left, rate, factor, queries, log_domain, rows}
-use Rattle.configuration.specs.Verdicts.{flawless, Phased}
+use Rattle.configuration.specs.Phases.{left, rate, queries, log_domain, rows}
+use Rattle.configuration.specs.Verdicts.{flawless}
 use Rattle.parameters.specs.Refusals.{Refusal}
 use Rattle.configuration.specs.Verdicts.{fault}
 use Rattle.configuration.proofs.Phased.{checked}

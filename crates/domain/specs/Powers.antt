@@ -1,8 +1,8 @@
 -- Powers, and powers by squaring. Assumes nothing.
-use Rattle.std.specs.Prelude.{◌≡◌, ℕ, zero, suc, ◌+◌, ◌-◌, ◌*◌, ◌/◌, ◌%◌, ◌^◌, ◌<◌, ◌≤◌, List, [], ◌∷◌, length, ◌≢◌, slice_index_or}
+use Rattle.std.specs.Prelude.{◌≡◌, ℕ, zero, suc, ◌-◌, ◌*◌, ◌/◌, ◌%◌, ◌^◌, ◌<◌, length, ◌≢◌, slice_index_or}
 use Rattle.std.proofs.Math.Path.{refl, sym, ap, ap₂}
 use Rattle.std.proofs.Common.{◌∙◌, mul-suc, mul-zero, add_comm}
-use Rattle.std.proofs.Math.Nat.{pow-succ', sub-zero}
+use Rattle.std.proofs.Math.Nat.{pow-succ'}
 use native.Mathlib.Omega.{arith}
 use Rattle.ring.specs.Ring.{Ops, IsRing}
 use Rattle.multilinear.specs.Univariate.{pow, expand}

@@ -1,5 +1,5 @@
 -- Elements as bytes: writing and reading word by word, and reading back. Assumes nothing.
-use Rattle.std.proofs.Common.{◌≡◌, ℕ, zero, suc, ◌+◌, ◌*◌, ◌/◌, ◌%◌, ◌^◌, ◌<◌, ◌≤◌, Bool, true, false, cond, ltb, ◌⊎◌, List, [], ◌∷◌, ◌++◌, length, get_or, take, drop, set, Some, None, Option, sym, refl, ap, ◌∙◌, subst, ap₂, inl, inr, ⊎_elim, append_assoc, le_of_suc-le-suc, not-suc-le-zero, mod-eq_of_lt, div-lt_iff_lt-mul, div-add-mod', suc-ne-zero, arith, lit<, length-append, take-add}
+use Rattle.std.proofs.Common.{◌≡◌, ℕ, zero, suc, ◌+◌, ◌*◌, ◌/◌, ◌%◌, ◌^◌, ◌<◌, ◌≤◌, Bool, true, false, cond, ltb, List, [], ◌∷◌, ◌++◌, length, get_or, take, drop, set, Some, None, Option, sym, refl, ap, ◌∙◌, subst, ap₂, ⊎_elim, append_assoc, le_of_suc-le-suc, not-suc-le-zero, mod-eq_of_lt, div-lt_iff_lt-mul, div-add-mod', suc-ne-zero, arith, lit<, take-add}
 use native.Mathlib.Nat.{div-div-eq-div-mul}
 use lib.Arith.{digits_mod, digits_div}
 use Rattle.std.proofs.lemmas.List.{take_at, drop_at, drop-drop, take_more, take_more_set, take_all, length-take-le}

@@ -1,5 +1,5 @@
 -- What the code computes in place of a division by the modulus. Assumes nothing.
-use Rattle.std.proofs.Common.{◌≡◌, ℕ, ◌+◌, ◌-◌, ◌*◌, ◌/◌, ◌%◌, ◌<◌, ◌≤◌, sym, refl, ap, ◌∙◌, mod-lt, mod-eq_of_lt, add-mul, mul-le-mul, one-mul, mul-one, mul-add, arith}
+use Rattle.std.proofs.Common.{◌≡◌, ℕ, ◌+◌, ◌-◌, ◌*◌, ◌/◌, ◌%◌, ◌<◌, ◌≤◌, sym, ap, ◌∙◌, mod-lt, add-mul, mul-le-mul, one-mul, mul-one, mul-add, arith}
 use native.Mathlib.Nat.{mod-add-div', div-le_of_le-mul}
 use lib.Arith.{digits_mod}
 

@@ -1,13 +1,13 @@
 -- A field lies over itself, and pairs over an extension lie over the same base. Assumes nothing.
 use Rattle.std.specs.Prelude.{◌≡◌, ℕ, suc, ◌+◌, ◌-◌, ◌<◌, ◌≤◌, List, [], ◌∷◌, ◌++◌, map, length, get_or, take, drop, replicate, slice_index_or, slice_set, refl}
-use Rattle.std.proofs.Common.{sym, ap, ap₂, ◌∙◌, ⊎_elim, suc-ne-zero, arith, length-append, length-take, length-drop, take-append-drop}
+use Rattle.std.proofs.Common.{sym, ap, ap₂, ◌∙◌, ⊎_elim, suc-ne-zero, arith, length-append, length-drop, take-append-drop}
 use Rattle.std.proofs.Math.Nat.{suc_inj}
-use Rattle.std.proofs.lemmas.List.{take_at, drop_at, length-take-le, set-append_left, set-append_right, replicate-append-replicate, length-replicate}
+use Rattle.std.proofs.lemmas.List.{take_at, drop_at, length-take-le, set-append_left, set-append_right, replicate-append-replicate}
 use Rattle.ring.specs.Ring.{Ops, IsRing}
 use Rattle.ring.proofs.Basic.{sub_self}
 use Rattle.ring.proofs.Solve.{ring, v0, v1, v2, v3, O, ◌⊕◌, ◌⊗◌}
 use Rattle.field.specs.declared.pair.Pair.{Pair}
-use Rattle.field.specs.Tower.{pair, pair_ops}
+use Rattle.field.specs.Tower.{pair_ops}
 use Rattle.field.specs.Extension.{Extension, Extends, Sized, together, itself, doubled}
 use Rattle.field.specs.Pairs.{pair_path}
 

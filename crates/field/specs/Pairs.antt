@@ -1,12 +1,12 @@
 -- The pairs over a field are a field. Assumes nothing.
-use Rattle.std.specs.Prelude.{◌≡◌, ℕ, ◌⊎◌, List, [], ◌∷◌, refl}
-use Rattle.std.proofs.Common.{sym, ap, ap₂, ◌∙◌, inl, inr, ⊎_elim}
+use Rattle.std.specs.Prelude.{◌≡◌, ◌⊎◌, [], ◌∷◌}
+use Rattle.std.proofs.Common.{ap, inl, inr, ⊎_elim}
 use Rattle.ring.specs.Ring.{Ops, IsRing}
 use Rattle.ring.proofs.Basic.{eq_of_sub}
-use Rattle.ring.proofs.Solve.{Expr, var, num, O, I, ◌⊕◌, ◌⊖◌, ◌⊗◌, ring, ring_from, by, v0, v1, v2, v3, v4, v5, v6}
+use Rattle.ring.proofs.Solve.{Expr, O, I, ◌⊕◌, ◌⊖◌, ◌⊗◌, ring, ring_from, by, v0, v1, v2, v3, v4, v5, v6}
 use Rattle.field.specs.declared.pair.Pair.{Pair}
 use Rattle.field.specs.Laws.{IsField}
-use Rattle.field.specs.Tower.{pair, pair_ops}
+use Rattle.field.specs.Tower.{pair_ops}
 
 pub pair_path : {A : Type 0} {x y : Pair A} → x.a ≡ y.a → x.b ≡ y.b → x ≡ y
 pair_path p q = λ j. record { a = p j; b = q j }

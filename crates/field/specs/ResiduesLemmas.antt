@@ -1,20 +1,19 @@
 -- The numbers below a modulus are a ring, and a field where a test passes at each of them. Assumes nothing.
 use Rattle.std.specs.Prelude.{◌≡◌, ℕ, zero, suc, ◌+◌, ◌-◌, ◌*◌, ◌/◌, ◌%◌, ◌^◌, ◌<◌, ◌≤◌, Bool, true, false, ◌&&◌, T, ◌≢◌, ◌⊎◌, [], ◌∷◌, ◌==◌, nat_eq}
 use Rattle.std.proofs.Math.Path.{refl, sym, ap}
-use Rattle.std.proofs.Common.{ap₂, subst, ◌∙◌, inl, inr, ⊎_elim, arith, mod-lt, add_assoc, add_comm, add-zero, add-mul, mul_assoc, mul_comm, mul-one, mul-add, mul_left_comm, zero-mul, mul-zero, pow-suc, eq-or-lt_of_le, add-one}
+use Rattle.std.proofs.Common.{ap₂, subst, ◌∙◌, inl, inr, ⊎_elim, arith, add_assoc, add_comm, add-zero, add-mul, mul_assoc, mul_comm, mul-one, mul-add}
 use mathlib.Core.HLevel.{is_prop→PathP}
 use Rattle.std.proofs.Math.Bridge.{le_prop}
 use Rattle.std.proofs.Math.Decide.{ℕ_discrete, dec_lt}
 use Rattle.std.proofs.Math.Nat.{mod-eq_of_lt, mod-add-mod, add-mod-mod, mod-add-div, add-mod_right, add-mul-mod_self_left, zero-mod, two-pow-succ}
 use Rattle.std.proofs.Math.Dec.{eqb→eq, eqb_refl}
-use Rattle.std.proofs.Math.Arith.{digits_mod}
 use Rattle.ring.specs.Ring.{Ops, IsRing}
 use Rattle.ring.proofs.Basic.{mul-zero as ring-mul-zero}
 use Rattle.ring.proofs.Solve.{ring, v0, v1, ◌⊗◌}
 use Rattle.field.specs.declared.residue.Residue.{Residue}
 use Rattle.field.specs.Laws.{IsField}
 use Rattle.field.specs.Numbers.{Numbers}
-use Rattle.field.specs.Residues.{reduce, residue_ops, residue_numbering}
+use Rattle.field.specs.Residues.{residue_ops, residue_numbering}
 
 pub residue_path : {p : ℕ} {x y : Residue p} → x.value ≡ y.value → x ≡ y
 residue_path {p} {x} {y} e = λ j. record { value = e j; below = is_prop→PathP (λ k. suc (e k) ≤ p) (λ k. le_prop) x.below y.below j }

@@ -6,7 +6,7 @@ use Rattle.field.specs.Laws.{IsField}
 use Rattle.field.specs.Tower.{pair, pair_ops}
 use Rattle.field.specs.Numbers.{Numbers}
 use Rattle.field.specs.Residues.{reduce, ops_257, ops_65537, numbering_257, numbering_65537}
-use Rattle.field.specs.Extension.{Extends, Sized, itself, doubled}
+use Rattle.field.specs.Extension.{Extends, itself, doubled}
 
 -- the numbers below 257 and those below 65,537, with s = 3 and i = 16 and 256, are fields
 pub record BaseFields : Type 0 where

@@ -1,5 +1,5 @@
 -- Parts read one after another.
-use Rattle.std.proofs.Common.{◌≡◌, ℕ, List, Ok, Err, Result, sym, refl, ap, subst}
+use Rattle.std.proofs.Common.{◌≡◌, ℕ, List, Ok, Err, Result, sym, ap, subst}
 use Rattle.format.specs.declared.errors.Expected.{Expected}
 use Rattle.format.specs.declared.errors.Fault.{Fault}
 use Rattle.format.specs.declared.errors.Fault.TheVariants.{Syntax, OutOfMemory}

@@ -1,9 +1,9 @@
 -- Reading digits one by one.
-use Rattle.std.proofs.Common.{◌≡◌, ℕ, ◌+◌, ◌-◌, ◌*◌, ◌^◌, ◌<◌, ◌≤◌, min, true, false, eqb, ltb, List, [], ◌∷◌, length, get_or, take, drop, sym, refl, ap, ◌∙◌, arith}
+use Rattle.std.proofs.Common.{◌≡◌, ℕ, ◌+◌, ◌-◌, ◌*◌, ◌^◌, ◌<◌, ◌≤◌, min, true, false, eqb, ltb, List, length, get_or, take, drop, sym, refl, ap, ◌∙◌, arith}
 use Rattle.std.proofs.lemmas.List.{at_drop_more, at_drop_all}
 use Rattle.std.proofs.lemmas.Bool.{eq-eqb, ne_eqb, lt-ltb, le-ltb, cond-true, cond-false}
 use Rattle.format.specs.declared.errors.Expected.TheVariants.{Number, NumberBelow64Bits}
-use Rattle.format.specs.Reading.{Read, found, stuck, is_digit, digit_count, digits_of, value_after, number}
+use Rattle.format.specs.Reading.{found, stuck, is_digit, digit_count, digits_of, value_after, number}
 
 -- i bytes were digits
 pub counted_more : (bs : List ℕ) (i : ℕ) → digit_count bs ≡ i + digit_count (drop i bs) → i < length bs → is_digit (get_or bs i 0) ≡ true

@@ -1,8 +1,7 @@
 -- Items read one after another.
-use Rattle.std.proofs.Common.{◌≡◌, ℕ, zero, suc, ◌+◌, ◌-◌, ◌<◌, ◌≤◌, true, List, [], ◌∷◌, ◌++◌, length, Ok, Err, Result, sym, refl, ap, ◌∙◌, subst, append_assoc, add-one, arith}
+use Rattle.std.proofs.Common.{◌≡◌, ℕ, zero, suc, ◌+◌, ◌-◌, ◌<◌, ◌≤◌, List, [], ◌∷◌, ◌++◌, length, Err, sym, refl, ap, ◌∙◌, append_assoc, add-one, arith}
 use Rattle.format.specs.declared.errors.Expected.{Expected}
 use Rattle.format.specs.Reading.{Read, found, stuck, then, each, next_number, numbers_listed, Stands, Gives}
-use Rattle.configuration.specs.declared.whir_parameters.RoundConfig.{RoundConfig}
 use Rattle.format.specs.declared.errors.Fault.{Fault}
 use Rattle.format.specs.declared.errors.Fault.TheVariants.{Syntax, OutOfMemory}
 use Rattle.format.specs.Lines.{round_of}

@@ -1,13 +1,13 @@
 -- What a file comes to.
-use Rattle.std.proofs.Common.{◌≡◌, ℕ, List, Ok, Err, sym, ap, ◌∙◌}
+use Rattle.std.proofs.Common.{◌≡◌, ℕ, List, Err, sym, ap, ◌∙◌}
 use Rattle.configuration.specs.Numbers.{Numbers, numbers_of}
 use Rattle.format.specs.declared.errors.Fault.{Fault}
 use Rattle.format.specs.declared.errors.Fault.TheVariants.{Syntax, OutOfMemory}
 use Rattle.format.specs.declared.keys.Key.TheVariants.{NumVariables}
 use Rattle.format.specs.Words.{letters}
-use Rattle.format.specs.Reading.{Read, found, stuck, Stands}
+use Rattle.format.specs.Reading.{Read, stuck, Stands}
 use Rattle.format.specs.Configurations.{configuration_lines}
-use Rattle.format.specs.Files.{from_line, line_of, Outcome, numbers, wrong, told, outcome, placed, Answers}
+use Rattle.format.specs.Files.{from_line, line_of, told, outcome, placed, Answers}
 
 pub outcome_is : (text word rest : List ℕ) (p : Read Numbers) → word ≡ letters NumVariables → rest ≡ from_line word text → configuration_lines rest ≡ p
     → outcome text ≡ told text p

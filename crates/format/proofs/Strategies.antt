@@ -1,5 +1,5 @@
 -- A strategy by its name.
-use Rattle.std.proofs.Common.{◌≡◌, ℕ, Bool, true, false, List, drop, codes, sym, ap, ◌∙◌}
+use Rattle.std.proofs.Common.{◌≡◌, ℕ, true, false, List, drop, codes, sym, ap, ◌∙◌}
 use Rattle.std.proofs.lemmas.Bool.{cond-true, cond-false}
 use Rattle.format.specs.declared.errors.Expected.TheVariants as expected
 use Rattle.format.specs.Reading.{stuck, begins}

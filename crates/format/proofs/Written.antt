@@ -1,23 +1,21 @@
 -- Reading what is written.
-use Rattle.std.proofs.Common.{◌≡◌, ℕ, zero, suc, ◌+◌, ◌-◌, ◌*◌, ◌/◌, ◌%◌, ◌^◌, ◌<◌, ◌≤◌, min, Bool, true, false, cond, ◌&&◌, eqb, ltb, leb, List, [], ◌∷◌, ◌++◌, length, take, drop, codes, decimal, sym, refl, ap, ◌∙◌, append_assoc, arith, length-append}
+use Rattle.std.proofs.Common.{◌≡◌, ℕ, suc, ◌+◌, ◌-◌, ◌*◌, ◌%◌, ◌^◌, ◌<◌, ◌≤◌, Bool, true, false, cond, ◌&&◌, eqb, ltb, List, [], ◌∷◌, ◌++◌, length, take, drop, codes, decimal, sym, refl, ap, ◌∙◌, append_assoc, arith, length-append}
 use Rattle.std.specs.List.{AllByRecursion as All}
 use Rattle.std.proofs.lemmas.Fmt.{decimal_by_steps}
-use Rattle.std.proofs.lemmas.List.{take-append-le, take_all}
-use Rattle.std.proofs.lemmas.Bool.{eq-eqb, ne_eqb, le-leb, lt-ltb, and_from, cond-true, cond-false}
+use Rattle.std.proofs.lemmas.Bool.{eq-eqb, le-leb, lt-ltb, and_from, cond-true}
 use Rattle.parameters.specs.Schedule.{Strategy, constant, second, per_round}
 use Rattle.configuration.specs.Numbers.{Numbers}
 use Rattle.configuration.specs.Limits.{factors_of}
 use Rattle.configuration.specs.declared.whir_parameters.RoundConfig.{RoundConfig}
-use Rattle.configuration.specs.declared.whir_parameters.TerminalBudget.{TerminalBudget}
 use Rattle.format.specs.declared.errors.Expected.{Expected}
 use Rattle.format.specs.declared.errors.Expected.TheVariants as expected
 use Rattle.format.specs.declared.keys.Key.{Key}
 use Rattle.format.specs.declared.keys.Key.TheVariants as key
 use Rattle.format.specs.Words.{letters}
 use Rattle.format.specs.Reading.{Read, found, stuck, then, begins, the_word, the_key, blank, line_end, is_digit, digit_count, value_after, number, next_number, each, numbers_listed, list}
-use Rattle.format.specs.Lines.{line, byte_item, bytes_listed, byte_list, flag, line_index, strategy, constant_behind, second_behind, listed_behind, round_of, round, rounds_listed, rounds, terminal_of}
-use Rattle.format.specs.Configurations.{DomainPart, ParameterPart, PhasePart, FinalPart, domain_part, parameter_part, phase_part, final_part, configuration_lines}
-use Rattle.format.specs.Written.{spaced, all_text, spaced_all, listed, line_of_text, flag_text, strategy_text, fields, round_text, number_text, written, Held, Sized, ReadsBack, WrittenApart}
+use Rattle.format.specs.Lines.{line, byte_item, bytes_listed, byte_list, flag, line_index, strategy, constant_behind, second_behind, listed_behind, round, rounds_listed, rounds, terminal_of}
+use Rattle.format.specs.Configurations.{domain_part, parameter_part, phase_part, final_part, configuration_lines}
+use Rattle.format.specs.Written.{spaced, all_text, spaced_all, listed, line_of_text, flag_text, strategy_text, fields, round_text, number_text, written, Held, ReadsBack, WrittenApart}
 use Rattle.format.proofs.Chains.{then_found}
 use Rattle.format.proofs.Words.{word_there}
 use Rattle.format.proofs.Digits.{small_number}

@@ -1,5 +1,5 @@
 -- A configuration in a file: alone, or inside a whole case.
-use Rattle.std.specs.Prelude.{◌≡◌, ℕ, suc, ◌+◌, ◌-◌, ◌^◌, min, Bool, false, cond, ◌&&◌, List, [], ◌∷◌, Ok, Err, Result, ◌==◌}
+use Rattle.std.specs.Prelude.{◌≡◌, ℕ, ◌+◌, ◌-◌, ◌^◌, min, Bool, false, cond, ◌&&◌, List, [], ◌∷◌, Ok, Err, Result, ◌==◌}
 use Rattle.configuration.specs.declared.whir_parameters.WhirNumbers.{WhirNumbers}
 use Rattle.configuration.specs.Numbers.{Numbers, numbers_of}
 use Rattle.format.specs.declared.errors.Expected.{Expected}

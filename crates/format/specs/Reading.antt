@@ -1,7 +1,7 @@
 -- Reading a text from its front.
-use Rattle.std.specs.Prelude.{◌≡◌, ℕ, zero, suc, ◌+◌, ◌-◌, ◌*◌, ◌^◌, Bool, true, false, cond, ◌&&◌, List, [], ◌∷◌, ◌++◌, length, take, drop, Ok, Err, Result, ◌==◌, nat_le, nat_lt}
+use Rattle.std.specs.Prelude.{◌≡◌, ℕ, zero, suc, ◌+◌, ◌-◌, ◌*◌, ◌^◌, Bool, true, false, cond, ◌&&◌, List, [], ◌∷◌, length, take, drop, Ok, Err, Result, ◌==◌, nat_le, nat_lt}
 use Rattle.format.specs.declared.errors.Expected.{Expected}
-use Rattle.format.specs.declared.errors.Expected.TheVariants.{Word, Blank, LineEnd, Number, NumberBelow64Bits, Byte, Flag, Index, Strategy}
+use Rattle.format.specs.declared.errors.Expected.TheVariants.{Word, Blank, LineEnd, Number, NumberBelow64Bits}
 use Rattle.format.specs.declared.errors.Fault.{Fault}
 use Rattle.format.specs.declared.errors.Fault.TheVariants as fault
 use Rattle.format.specs.declared.keys.Key.{Key}

@@ -1,5 +1,5 @@
 -- How the lines of a configuration are written, and that reading gives the numbers back.
-use Rattle.std.specs.Prelude.{◌≡◌, ℕ, suc, ◌+◌, ◌^◌, ◌<◌, Bool, cond, List, [], ◌∷◌, ◌++◌, length, codes, decimal}
+use Rattle.std.specs.Prelude.{◌≡◌, ℕ, suc, ◌^◌, ◌<◌, Bool, cond, List, [], ◌∷◌, ◌++◌, length, codes, decimal}
 use Rattle.std.specs.List.{AllByRecursion as All}
 use Rattle.parameters.specs.Schedule.{Strategy, constant, second, per_round}
 use Rattle.configuration.specs.Numbers.{Numbers}
@@ -8,7 +8,7 @@ use Rattle.configuration.specs.declared.whir_parameters.RoundConfig.{RoundConfig
 use Rattle.format.specs.declared.keys.Key.{Key}
 use Rattle.format.specs.declared.keys.Key.TheVariants as key
 use Rattle.format.specs.Words.{letters}
-use Rattle.format.specs.Reading.{Read, found}
+use Rattle.format.specs.Reading.{found}
 use Rattle.format.specs.Configurations.{configuration_lines}
 
 -- A blank and a number, before what follows.

@@ -1,5 +1,5 @@
 -- Bytes written as hexadecimal digits, in lower case, two to a byte, the higher one first; no bytes are written `-`.
-use Rattle.std.specs.Prelude.{ℕ, ◌+◌, ◌-◌, ◌*◌, Bool, true, false, cond, ◌&&◌, List, [], ◌∷◌, ◌++◌, Some, None, Option, nat_le}
+use Rattle.std.specs.Prelude.{ℕ, ◌+◌, ◌-◌, ◌*◌, cond, ◌&&◌, List, [], ◌∷◌, ◌++◌, Some, None, Option, nat_le}
 
 -- the value of a digit
 abbrev pub digit_value : ℕ → Option ℕ

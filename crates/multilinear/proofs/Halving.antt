@@ -1,5 +1,5 @@
 -- A table's value, one variable at a time: what a buffer of values does.
-use Rattle.std.proofs.Common.{◌≡◌, zero, suc, ◌+◌, ◌^◌, List, [], ◌∷◌, ◌++◌, length, sym, refl, ap, ◌∙◌, ap₂, arith}
+use Rattle.std.proofs.Common.{◌≡◌, suc, ◌^◌, List, [], ◌∷◌, ◌++◌, length, sym, refl, ap, ◌∙◌, ap₂, arith}
 use Rattle.ring.specs.Ring.{Ops, IsRing}
 use Rattle.multilinear.specs.Tables.{corners, product, dot, tabulate, eq, eq_factor, value}
 use Rattle.multilinear.specs.Weights.{weighted}

@@ -1,5 +1,5 @@
 -- Functions of a point that are linear in each coordinate.
-use Rattle.std.proofs.Common.{◌≡◌, zero, suc, List, [], ◌∷◌, ◌++◌, map, reverse, length, sym, refl, ap, ◌∙◌, ap₂, append_assoc}
+use Rattle.std.proofs.Common.{◌≡◌, suc, List, [], ◌∷◌, ◌++◌, map, reverse, length, sym, refl, ap, ◌∙◌, ap₂, append_assoc}
 use mathlib.Core.Path.{fun_ext}
 use mathlib.Core.List.{reverse-cons, reverse-append}
 use Rattle.ring.specs.Ring.{Ops, IsRing}

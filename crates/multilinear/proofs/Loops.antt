@@ -1,5 +1,5 @@
 -- One turn of each loop, and its end, over plain values.
-use Rattle.std.proofs.Common.{◌≡◌, ℕ, zero, suc, ◌+◌, ◌-◌, ◌*◌, ◌/◌, ◌^◌, ◌<◌, ◌≤◌, List, [], ◌∷◌, ◌++◌, length, get_or, take, drop, set, sym, refl, ap, ◌∙◌, ap₂, add-zero, mul_comm, add_comm, add-one, arith, length-append, length-drop, length-set, take-append-drop, drop_of_length-le, length-take, get_or-drop, drop-cons, drop-drop, drop-set-lt, take-add, pow_mono}
+use Rattle.std.proofs.Common.{◌≡◌, ℕ, suc, ◌+◌, ◌-◌, ◌*◌, ◌/◌, ◌^◌, ◌<◌, ◌≤◌, List, [], ◌∷◌, ◌++◌, length, get_or, take, drop, set, sym, refl, ap, ◌∙◌, ap₂, add-zero, mul_comm, add_comm, add-one, arith, length-append, length-drop, length-set, take-append-drop, drop_of_length-le, length-take, get_or-drop, drop-cons, drop-drop, drop-set-lt, take-add, pow_mono}
 use native.Mathlib.Nat.{sub-zero, pow-succ'}
 use Rattle.std.proofs.lemmas.List.{take_more, take_more_set, get_or-reverse, get_or-set_same}
 use Rattle.ring.specs.Ring.{Ops, IsRing}

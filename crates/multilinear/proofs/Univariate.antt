@@ -1,5 +1,5 @@
 -- Roots of a polynomial, and positions of a table.
-use Rattle.std.proofs.Common.{◌≡◌, ℕ, zero, suc, ◌+◌, ◌*◌, ◌^◌, ◌<◌, List, [], ◌∷◌, ◌++◌, length, take, drop, sym, refl, ap, ◌∙◌, ap₂, arith, length-drop, take-append-drop, length-take}
+use Rattle.std.proofs.Common.{◌≡◌, ℕ, zero, suc, ◌*◌, ◌^◌, ◌<◌, List, [], ◌∷◌, ◌++◌, length, take, drop, sym, refl, ap, ◌∙◌, ap₂, arith, length-drop, take-append-drop, length-take}
 use native.Mathlib.Nat.{pow-succ'}
 use Rattle.ring.specs.Ring.{Ops}
 use Rattle.ring.specs.Polynomials.{value as at, Root, Zero, minus}

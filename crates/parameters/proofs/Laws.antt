@@ -1,5 +1,5 @@
 -- The law of a schedule, for every strategy.
-use Rattle.std.proofs.Common.{◌≡◌, ℕ, zero, suc, ◌+◌, ◌-◌, ◌*◌, ◌<◌, ◌≤◌, min, Bool, true, false, cond, ◌||◌, eqb, ltb, leb, ◌⊎◌, List, [], ◌∷◌, map, length, get_or, take, IfOk, Ok, Err, vec_items, sum, Result, Vec, sym, refl, ap, ◌∙◌, subst, inl, inr, ⊎_elim, mul-le-mul_left, zero-mul, mul-one, add-one, arith}
+use Rattle.std.proofs.Common.{◌≡◌, ℕ, zero, suc, ◌+◌, ◌-◌, ◌*◌, ◌<◌, ◌≤◌, ◌||◌, eqb, ltb, leb, List, [], ◌∷◌, map, length, take, IfOk, Ok, Err, vec_items, sum, Result, Vec, sym, refl, ◌∙◌, subst, ⊎_elim, mul-le-mul_left, zero-mul, mul-one, add-one, arith}
 use Rattle.std.specs.List.{range_with_len, AllByRecursion as All}
 use Rattle.std.proofs.lemmas.List.FromFn.{length-map-range_with_len, get_or-map-range_with_len, take-map-range_with_len, sum_by-map-range_with_len_more}
 use Rattle.std.proofs.ByRecursion.{All-from_get_or}
@@ -7,7 +7,7 @@ use Rattle.std.proofs.lemmas.List.Sums.{sum_by-cons}
 use Rattle.std.proofs.lemmas.Bool.{cases_Bool, cond-true, cond-false, or_parts, eqb-false, ltb-false, leb-true, leb-false, le-leb}
 use Rattle.parameters.specs.declared.errors.ScheduleError.{ScheduleError}
 use Rattle.parameters.specs.Refusals.{Refusal}
-use Rattle.parameters.specs.Schedule.{Strategy, constant, second, per_round, Verdict, planned, refused, first, folds, clamped, by_factors, before, walk, unless_faulty, listed, schedule, Lawful, SchedulesLawful}
+use Rattle.parameters.specs.Schedule.{Strategy, constant, second, per_round, Verdict, planned, refused, folds, clamped, by_factors, before, walk, unless_faulty, listed, schedule, Lawful, SchedulesLawful}
 use Rattle.parameters.specs.declared.folding.FoldingFactor.{FoldingFactor}
 use Rattle.parameters.specs.Replies.{strategy_of, said, Answers}
 use Rattle.parameters.proofs.Folds.{part, more_times, first_passes, first_misses}

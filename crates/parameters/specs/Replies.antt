@@ -1,5 +1,5 @@
 -- How the code's values are read: a strategy, a refusal by its number and values, an answer.
-use Rattle.std.specs.Prelude.{◌≡◌, ℕ, zero, suc, ◌-◌, ◌≤◌, List, [], ◌∷◌, length, take, Some, None, Ok, Err, vec_items, sum, Option, Result, Vec}
+use Rattle.std.specs.Prelude.{◌≡◌, ℕ, zero, suc, ◌-◌, ◌≤◌, List, length, take, Some, Ok, Err, vec_items, sum, Option, Result, Vec}
 use Rattle.std.specs.List.{slice_get}
 use Rattle.parameters.specs.declared.errors.FoldingFactorError.{FoldingFactorError}
 use Rattle.parameters.specs.declared.errors.FoldingFactorError.TheVariants.{TooLarge, ZeroFactor, InsufficientFolding, EmptySchedule}

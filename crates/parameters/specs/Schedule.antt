@@ -1,5 +1,5 @@
 -- How the variables of a table are folded, phase by phase, until so few are left that the rest is sent in the clear.
-use Rattle.std.specs.Prelude.{◌≡◌, ℕ, zero, suc, ◌+◌, ◌-◌, ◌*◌, ◌<◌, ◌≤◌, min, Bool, true, false, cond, ◌||◌, leb, List, [], ◌∷◌, ◌++◌, map, length, take, sum, ◌==◌, nat_le, nat_lt}
+use Rattle.std.specs.Prelude.{◌≡◌, ℕ, zero, suc, ◌-◌, ◌*◌, ◌<◌, ◌≤◌, min, Bool, cond, ◌||◌, leb, List, [], ◌∷◌, map, length, take, sum, ◌==◌, nat_le, nat_lt}
 use Rattle.std.specs.List.{range_with_len, AllByRecursion as All}
 use Rattle.parameters.specs.Refusals.{Refusal, too_large, zero_factor, insufficient, empty_schedule}
 

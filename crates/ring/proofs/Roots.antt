@@ -1,10 +1,10 @@
 -- How many roots a polynomial has, and polynomials that are alike at a point. Assumes nothing.
-use Rattle.std.proofs.Common.{◌≡◌, ℕ, suc, ◌<◌, ◌≤◌, ◌⊎◌, List, [], ◌∷◌, length, sym, refl, ap, ◌∙◌, ap₂, inl, inr, ⊎_elim, suc-ne-zero, arith}
+use Rattle.std.proofs.Common.{◌≡◌, suc, ◌⊎◌, List, [], ◌∷◌, length, sym, refl, ap, ◌∙◌, ap₂, inl, inr, ⊎_elim, suc-ne-zero, arith}
 use native.Mathlib.Nat.{suc_inj}
 use Rattle.std.specs.List.{AllByRecursion as All}
 use Rattle.ring.specs.Ring.{Ops, IsRing}
-use Rattle.ring.specs.Polynomials.{Distinct, value, Root, Zero, negated, minus, FewRoots, EqualOrRoot, SameOrRoot}
-use Rattle.ring.proofs.Basic.{eq_of_sub, sub_self, mul-zero}
+use Rattle.ring.specs.Polynomials.{value, Root, Zero, negated, minus, FewRoots, EqualOrRoot, SameOrRoot}
+use Rattle.ring.proofs.Basic.{eq_of_sub, sub_self}
 use Rattle.ring.proofs.Solve.{ring, ring_from, by, v0, v1, v2, v3, v4, O, I, ◌⊕◌, ◌⊖◌, ◌⊗◌}
 
 module _ {A : Type 0} {o : Ops A} (L : IsRing o) where

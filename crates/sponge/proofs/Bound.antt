@@ -1,5 +1,5 @@
 -- The archive sponge's history, walked from its start: where the states after a call agree, the lists hashed agree, or collide.
-use Rattle.std.proofs.Common.{◌≡◌, ℕ, suc, ◌≢◌, ◌⊎◌, List, [], ◌∷◌, ◌++◌, length, get_or, take, drop, sym, refl, ap, ◌∙◌, subst, inl, inr, ⊎_elim, arith}
+use Rattle.std.proofs.Common.{◌≡◌, ℕ, ◌≢◌, ◌⊎◌, List, [], ◌∷◌, ◌++◌, length, get_or, take, drop, sym, refl, ap, ◌∙◌, inl, inr, ⊎_elim, arith}
 use mathlib.Core.List.{List-discrete}
 use native.Mathlib.Decide.{ℕ_discrete}
 use lib.Seq.{take-append_seam, drop-append_seam}
@@ -7,7 +7,7 @@ use Rattle.blake2s.specs.Blake2s.{hash}
 use Rattle.blake2s.proofs.Digests.{length_hash}
 use Rattle.sponge.specs.Play.{Event, observed, drew, after}
 use Rattle.sponge.specs.Archive.{archive, zeros}
-use Rattle.sponge.specs.Binding.{hashed, hashes, Alike, Collide, ArchiveBinds}
+use Rattle.sponge.specs.Binding.{hashes, Alike, Collide, ArchiveBinds}
 
 -- 32 bytes and others after them
 cut : (h k bs cs : List ℕ) → length h ≡ 32 → length k ≡ 32 → h ++ bs ≡ k ++ cs → (h ≡ k) × (bs ≡ cs)

@@ -1,11 +1,10 @@
 -- The calls of grinding and of drawing an element.
-use Rattle.std.proofs.Common.{◌≡◌, ℕ, zero, suc, ◌%◌, ◌^◌, true, eqb, ◌↔◌, List, [], ◌∷◌, ◌++◌, map, length, Ok, Err, Result, sym, refl, ap, ◌∙◌, subst, append-nil, eq-eqb, eqb-true}
+use Rattle.std.proofs.Common.{◌≡◌, ℕ, zero, suc, ◌%◌, List, [], ◌∷◌, ◌++◌, map, length, Ok, Err, Result, sym, refl, ap, ◌∙◌, append-nil, eq-eqb, eqb-true}
 use Rattle.ring.specs.Ring.{Ops}
-use Rattle.field.specs.Bytes.{word_bytes, element_bytes}
+use Rattle.field.specs.Bytes.{word_bytes}
 use Rattle.field.specs.Extension.{Extension, Extends}
 use Rattle.field.specs.Numbers.{Numbering, Numbers}
-use Rattle.sponge.specs.Deciding.{All}
-use Rattle.sponge.specs.Play.{Rules, Play, done, ◌>>=◌, Outcome, run, read, each, counted, times, Event, observed, drew, onward, trail, words}
+use Rattle.sponge.specs.Play.{Rules, run, read, each, counted, times, drew, onward, trail, words}
 use Rattle.sponge.specs.Drawing.{draw_bits, check_witness, draw_base, draw_extension}
 use Rattle.sponge.specs.Drawn.{Grinding, Elements}
 

@@ -1,9 +1,9 @@
 -- What the functions that draw come to, from what the sponge's own calls ensure.
-use Rattle.std.proofs.Common.{◌≡◌, ℕ, zero, suc, ◌+◌, ◌-◌, ◌*◌, ◌%◌, ◌^◌, ◌<◌, ◌≤◌, Bool, true, eqb, List, [], ◌∷◌, ◌++◌, length, take, set, Ok, sym, refl, ap, ◌∙◌, subst, append_assoc, append-nil, mod-eq_of_lt, arith, take_all, pow_mono}
+use Rattle.std.proofs.Common.{◌≡◌, ℕ, zero, suc, ◌+◌, ◌-◌, ◌*◌, ◌%◌, ◌^◌, ◌<◌, ◌≤◌, true, eqb, List, [], ◌∷◌, ◌++◌, length, take, set, Ok, sym, refl, ap, ◌∙◌, subst, append_assoc, append-nil, mod-eq_of_lt, arith, take_all, pow_mono}
 use mathlib.Core.Path.{fun_ext}
 use lib.Seq.{take-append_seam}
 use Rattle.std.proofs.lemmas.List.{take_more_set}
-use Rattle.sponge.specs.Play.{Rules, Play, done, observe, draw, ◌>>=◌, each, counted}
+use Rattle.sponge.specs.Play.{Rules, Play, done, observe, ◌>>=◌, each, counted}
 use Rattle.sponge.specs.Plays.{Plays, Leads}
 use Rattle.field.specs.Bytes.{word_bytes, coefficients_bytes, element_bytes}
 use Rattle.field.specs.Extension.{Extension, Extends}

@@ -1,7 +1,7 @@
 -- Chaining what the calls of a function promise into what the function promises: Leads from call to call, and Plays at the end.
 use Rattle.std.proofs.Common.{◌≡◌, ℕ, suc, ◌+◌, ◌-◌, ◌<◌, ◌≤◌, List, [], ◌∷◌, ◌++◌, IsErrAnd, Ok, Err, Result, sym, refl, ap, ◌∙◌, subst, append_assoc, arith}
 use mathlib.Core.Path.{fun_ext}
-use Rattle.sponge.specs.Play.{Rules, Play, done, observe, draw, check, under, sure, ◌>>=◌, Outcome, tested, reworded, goes_on, run, each, counted}
+use Rattle.sponge.specs.Play.{Rules, Play, done, observe, draw, check, under, sure, ◌>>=◌, Outcome, reworded, goes_on, run, each, counted}
 use Rattle.sponge.specs.Plays.{Plays, Leads}
 
 pub leads_none : {R A : Type 0} (m : Rules) (s : List ℕ) (p : Play R A) → Leads m s p s p

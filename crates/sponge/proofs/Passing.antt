@@ -3,7 +3,7 @@ use Rattle.std.proofs.Common.{◌≡◌, ℕ, ◌↔◌, List, [], ◌∷◌, Ok
 use Rattle.sponge.specs.Play.{Rules, Play, done, observe, draw, check, under, ◌>>=◌, Outcome, tested, reworded, goes_on, run, Reading, read, Passes, unchecked, each}
 use Rattle.sponge.specs.Deciding.{All, Every}
 use Rattle.sponge.specs.Plays.{Plays}
-use Rattle.sponge.specs.Laws.{Decided, DecidedByChecks, Says}
+use Rattle.sponge.specs.Laws.{DecidedByChecks, Says}
 
 -- a reading, as an outcome
 abbrev answered : {R A : Type 0} → Reading A → Outcome R A

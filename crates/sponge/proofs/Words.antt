@@ -1,6 +1,6 @@
 -- The words drawn settle what a play comes to, and the calls that it makes.
-use Rattle.std.proofs.Common.{◌≡◌, ℕ, List, [], ◌∷◌, ◌++◌, Ok, Err, Result, sym, refl, ap, ◌∙◌, subst, append_assoc, append-nil}
-use Rattle.sponge.specs.Play.{Rules, Play, done, observe, draw, check, under, ◌>>=◌, Outcome, tested, reworded, goes_on, run, Event, observed, drew, onward, trail, words, after, reader}
+use Rattle.std.proofs.Common.{◌≡◌, ℕ, List, [], ◌∷◌, ◌++◌, Ok, Err, Result, sym, refl, ap, ◌∙◌, append_assoc, append-nil}
+use Rattle.sponge.specs.Play.{Rules, Play, done, observe, draw, check, under, ◌>>=◌, reworded, goes_on, run, Event, observed, drew, onward, trail, words, after, reader}
 use Rattle.sponge.specs.Laws.{Settled, LeftByTrail}
 
 pub words_append : (es fs : List Event) → words (es ++ fs) ≡ words es ++ words fs

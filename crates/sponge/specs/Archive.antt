@@ -1,5 +1,5 @@
 -- The archive sponge: 32 bytes h, at first zero. H is BLAKE2s with no key and a digest of 32 bytes.
-use Rattle.std.specs.Prelude.{ℕ, ◌+◌, ◌*◌, List, [], ◌∷◌, ◌++◌, replicate, slice_index}
+use Rattle.std.specs.Prelude.{ℕ, ◌+◌, ◌*◌, List, ◌∷◌, ◌++◌, replicate, slice_index}
 use Rattle.blake2s.specs.Blake2s.{hash}
 use Rattle.sponge.specs.Play.{Rules}
 

@@ -1,5 +1,5 @@
 -- What holds of every play, over every kind of sponge.
-use Rattle.std.specs.Prelude.{◌≡◌, ℕ, ◌↔◌, List, [], ◌∷◌, Ok}
+use Rattle.std.specs.Prelude.{◌≡◌, ℕ, ◌↔◌, List, [], Ok}
 use Rattle.sponge.specs.Play.{Rules, Play, run, read, Passes, unchecked, trail, words, after, reader}
 
 -- The run answers exactly where every check along the reading holds, and then with what is read, leaving the list that is read to.

@@ -1,5 +1,5 @@
 -- The pattern is balanced, and a separator can be cut in one way.
-use Rattle.std.proofs.Common.{◌≡◌, ℕ, zero, suc, ◌+◌, ◌-◌, ◌*◌, ◌/◌, ◌%◌, ◌^◌, ◌<◌, ◌≤◌, Bool, true, false, cond, eqb, List, [], ◌∷◌, ◌++◌, map, length, take, drop, sym, refl, ap, ◌∙◌, subst, mod-eq_of_lt, arith}
+use Rattle.std.proofs.Common.{◌≡◌, ℕ, zero, suc, ◌+◌, ◌-◌, ◌*◌, ◌/◌, ◌%◌, ◌^◌, ◌<◌, Bool, true, false, cond, eqb, List, [], ◌∷◌, ◌++◌, map, length, take, drop, sym, refl, ap, ◌∙◌, subst, mod-eq_of_lt, arith}
 use lib.Pow.{mod-pow-add}
 use Rattle.std.specs.List.{flat_map, AllByRecursion as All}
 use Rattle.std.proofs.lemmas.List.{take_at, drop_at}
@@ -10,11 +10,11 @@ use Rattle.transcript.specs.declared.interaction.Kind.TheVariants.{Message, Chal
 use Rattle.transcript.specs.declared.interaction.Value.{Value}
 use Rattle.transcript.specs.declared.interaction.Value.TheVariants.{Marker, Opaque, Base, Extension, Bits}
 use Rattle.transcript.specs.declared.interaction.Label.{Label}
-use Rattle.transcript.specs.declared.interaction.Label.TheVariants.{InitialFold, Commitment, OodPoint, OodAnswer, QueryPow, QueryIndices, RoundBatching, RoundFold, FinalPoly, FinalQueryPow, FinalQueryIndices, FinalFold}
+use Rattle.transcript.specs.declared.interaction.Label.TheVariants.{InitialFold, QueryIndices, RoundFold, FinalQueryIndices, FinalFold}
 use Rattle.transcript.specs.Bytes.{big_endian, eight}
 use Rattle.transcript.specs.Steps.{Step, hierarchy_byte, kind_byte, value_byte, step_bytes, bracket, indices_step}
 use Rattle.transcript.specs.Shape.{Shape, RoundShape}
-use Rattle.transcript.specs.Pattern.{sample_steps, grinding_steps, query_steps, closing_steps, round_steps, final_steps, pattern, Closing, Closes, Balanced}
+use Rattle.transcript.specs.Pattern.{sample_steps, query_steps, round_steps, final_steps, pattern, Closing, Closes, Balanced}
 use Rattle.transcript.specs.Instances.{instance_bytes}
 use Rattle.transcript.specs.Opening.{pieces}
 use Rattle.transcript.specs.Cutting.{Encodable, OneCut}

@@ -1,28 +1,27 @@
 -- The steps of a round and of the final phase, put together from what each call observes.
-use Rattle.std.proofs.Common.{◌≡◌, ℕ, zero, suc, ◌+◌, ◌-◌, ◌*◌, ◌%◌, ◌^◌, ◌<◌, ◌≤◌, min, Bool, true, false, cond, eqb, List, [], ◌∷◌, ◌++◌, map, length, get_or, take, sym, refl, ap, ◌∙◌, subst, add-one, arith}
+use Rattle.std.proofs.Common.{◌≡◌, ℕ, zero, suc, ◌+◌, ◌-◌, ◌*◌, ◌%◌, ◌^◌, ◌<◌, ◌≤◌, Bool, true, false, List, [], ◌∷◌, ◌++◌, map, length, get_or, take, sym, refl, ap, ◌∙◌, add-one, arith}
 use Rattle.std.specs.List.{flat_map}
 use mir.Val.{bool_byte}
 use Rattle.parameters.specs.Replies.{strategy_of}
 use Rattle.parameters.specs.declared.folding.FoldingFactor.{FoldingFactor}
 use Rattle.std.proofs.lemmas.Nat.{one_shl}
-use Rattle.std.proofs.lemmas.List.{map-append, map_more, take_all, length-map, get_or_read}
+use Rattle.std.proofs.lemmas.List.{map-append, map_more, take_all, length-map}
 use Rattle.sponge.specs.Play.{Rules, counted}
 use Rattle.configuration.specs.Numbers.{Numbers}
-use Rattle.configuration.specs.Phases.{factor, rate, log_positions_of, draws, round_at, no_round}
-use Rattle.configuration.specs.declared.whir_parameters.RoundConfig.{RoundConfig}
+use Rattle.configuration.specs.Phases.{factor, rate, log_positions_of, draws, round_at}
 use Rattle.transcript.specs.Bytes.{eight}
 use Rattle.transcript.specs.Depths.{depths}
 use Rattle.transcript.specs.Steps.{Step, step_bytes, commitment_step, drawn_step, sent_step, bracket, indices_step}
-use Rattle.transcript.specs.Shape.{shape, round_shape, difficulty, last_phase, Shape, RoundShape}
+use Rattle.transcript.specs.Shape.{shape, round_shape, difficulty, last_phase}
 use Rattle.transcript.specs.Sites.{Site, phase_of}
 use Rattle.transcript.specs.Pattern.{sample_steps, grinding_steps, query_steps, closing_steps, round_steps, final_steps, pattern}
-use Rattle.transcript.specs.Instances.{instance_bytes, instances, first_numbers, last_numbers, domain_instances, strategy_numbers, sumcheck_numbers, round_numbers, flag}
+use Rattle.transcript.specs.Instances.{instance_bytes, instances, first_numbers, domain_instances, strategy_numbers, round_numbers, flag}
 use Rattle.transcript.specs.Opening.{taken}
 use Rattle.transcript.specs.declared.interaction.Label.{Label}
-use Rattle.transcript.specs.declared.interaction.Label.TheVariants.{QueryPow, QueryIndices, RoundBatching, RoundFold, FinalPoly, FinalQueryPow, FinalQueryIndices, FinalFold, InitialFold}
+use Rattle.transcript.specs.declared.interaction.Label.TheVariants.{QueryPow, QueryIndices, RoundBatching, RoundFold, FinalPoly, FinalQueryPow, FinalQueryIndices, InitialFold}
 use Rattle.transcript.specs.declared.sites.QuerySite.{QuerySite}
 use Rattle.transcript.proofs.Summing.{none_left}
-use Rattle.transcript.proofs.Taking.{taken_on, taken_as, taken_next, taken_none, taken_one, taken_same, joined_push, counted_push}
+use Rattle.transcript.proofs.Taking.{taken_on, taken_as, taken_next, taken_none, taken_one, joined_push}
 
 -- one stratum more
 pub stratum_taken : (m : Rules) (s t whole : List ℕ) (w d a r sub : ℕ) (l : Label) (x : Step) → r < 64 → depths a ≡ r ∷ depths (a - 2 ^ r) → sub ≡ w - r

@@ -1,9 +1,9 @@
 -- Buffers filled with what is drawn.
-use Rattle.std.proofs.Common.{◌≡◌, ℕ, zero, suc, ◌+◌, ◌-◌, ◌*◌, ◌%◌, ◌^◌, ◌<◌, ◌≤◌, Bool, true, false, cond, eqb, List, [], ◌∷◌, ◌++◌, length, take, drop, set, Ok, Err, Result, sym, refl, ap, ◌∙◌, subst, append_assoc, append-nil, mod-lt, add-one, arith}
+use Rattle.std.proofs.Common.{◌≡◌, ℕ, zero, suc, ◌+◌, ◌-◌, ◌*◌, ◌^◌, ◌<◌, ◌≤◌, Bool, cond, eqb, List, [], ◌∷◌, ◌++◌, length, take, drop, set, Ok, Err, Result, sym, refl, ap, ◌∙◌, subst, append_assoc, append-nil, arith}
 use mathlib.Core.Path.{fun_ext}
 use Rattle.std.proofs.lemmas.Bool.{cond-false, ne_eqb}
 use Rattle.transcript.proofs.Summing.{none_left}
-use Rattle.std.proofs.lemmas.List.{set-append_right, length-take-le, length_push, drop_more, take-append-drop, length-append, length-drop, take_at, drop_at, drop-drop}
+use Rattle.std.proofs.lemmas.List.{set-append_right, length-take-le, length_push, drop_more, take-append-drop, length-append, take_at, drop_at, drop-drop}
 use Rattle.sponge.specs.Play.{Rules, Play, done, ◌>>=◌, each, counted, run, goes_on}
 use Rattle.sponge.specs.Plays.{Plays, Leads}
 use Rattle.sponge.specs.Drawing.{draw_bits}

@@ -1,14 +1,14 @@
 -- The positions that come of drawing: how many, and that each is one.
-use Rattle.std.proofs.Common.{◌≡◌, ℕ, zero, suc, ◌+◌, ◌-◌, ◌*◌, ◌%◌, ◌^◌, ◌<◌, ◌≤◌, Bool, true, false, cond, eqb, List, [], ◌∷◌, ◌++◌, length, sum_by, sym, refl, ap, ◌∙◌, subst, arith, pow_pos, pow-add}
+use Rattle.std.proofs.Common.{◌≡◌, ℕ, zero, suc, ◌+◌, ◌-◌, ◌*◌, ◌%◌, ◌^◌, ◌<◌, ◌≤◌, Bool, true, false, eqb, List, [], ◌∷◌, ◌++◌, length, sum_by, sym, refl, ap, ◌∙◌, subst, arith, pow_pos, pow-add}
 use Rattle.std.specs.List.{AllByRecursion as All}
 use Rattle.std.proofs.lemmas.Nat.{mul-add-lt, mod_below}
 use Rattle.std.proofs.lemmas.List.{length-append}
 use Rattle.std.proofs.lemmas.List.Sums.{sum_by-cons}
 use Rattle.std.proofs.lemmas.Bool.{cond-false, ne_eqb}
-use Rattle.sponge.specs.Play.{Rules, Play, done, ◌>>=◌, each, counted, read}
+use Rattle.sponge.specs.Play.{Rules, Play, each, counted, read}
 use Rattle.sponge.specs.Drawing.{draw_bits}
-use Rattle.transcript.specs.Depths.{depths, Falling, Summands}
-use Rattle.transcript.specs.Positions.{index_drawn, indices_drawn, strata_drawn, some_drawn, positions_at, Placed, PositionsPlaced}
+use Rattle.transcript.specs.Depths.{depths, Falling}
+use Rattle.transcript.specs.Positions.{index_drawn, indices_drawn, strata_drawn, some_drawn, positions_at, PositionsPlaced}
 use Rattle.transcript.proofs.Summing.{depths_sum}
 use Rattle.transcript.proofs.Describing.{counted_length}
 

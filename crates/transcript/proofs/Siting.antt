@@ -6,10 +6,10 @@ use Rattle.configuration.specs.declared.whir_parameters.RoundConfig.{RoundConfig
 use Rattle.configuration.proofs.Phased.{checked}
 use Rattle.std.proofs.lemmas.Nat.{one_shl}
 use Rattle.std.proofs.lemmas.List.{get_or_past, get_or-map, length-map}
-use Rattle.std.proofs.lemmas.Bool.{and_parts, cases_lt, cases_Bool, cond-true, cond-false, leb-true, leb-false, eqb-true, eqb-false}
+use Rattle.std.proofs.lemmas.Bool.{and_parts, cases_lt, cases_Bool, cond-true, cond-false, leb-true, leb-false, eqb-true}
 use Rattle.configuration.specs.Numbers.{Numbers}
-use Rattle.configuration.specs.Phases.{no_round, factor, rate, left, log_positions_of, queries, draws, query_draws, rows, rows_at}
-use Rattle.configuration.specs.Verdicts.{fault, flawless, Phased}
+use Rattle.configuration.specs.Phases.{no_round, factor, rate, left, log_positions_of, queries, draws, query_draws}
+use Rattle.configuration.specs.Verdicts.{fault, flawless}
 use Rattle.transcript.specs.Shape.{difficulty}
 use Rattle.transcript.specs.Sites.{Site}
 use Rattle.configuration.proofs.Views.{in_order, first_domain}

@@ -1,9 +1,9 @@
 -- The steps of an open run against their plays.
-use Rattle.std.proofs.Common.{◌≡◌, ℕ, suc, ◌+◌, ◌^◌, ◌<◌, ◌≤◌, Bool, true, false, T, List, [], ◌∷◌, length, get_or, drop, Ok, Err, Result, sym, refl, ap, ◌∙◌, subst}
+use Rattle.std.proofs.Common.{◌≡◌, ℕ, ◌+◌, ◌^◌, ◌<◌, ◌≤◌, Bool, true, false, T, List, ◌∷◌, length, get_or, drop, Ok, Err, sym, refl, ap, ◌∙◌, subst}
 use Rattle.std.proofs.lemmas.List.{drop_more, drop_all}
 use Rattle.field.specs.Numbers.{Numbering}
 use Rattle.field.specs.Extension.{Extension}
-use Rattle.sponge.specs.Play.{Rules, Play, done, check, sure, ◌>>=◌, ◌>>◌}
+use Rattle.sponge.specs.Play.{Rules, check, sure}
 use Rattle.sponge.specs.Plays.{Plays, Leads}
 use Rattle.sponge.specs.Deciding.{true?, same?}
 use Rattle.sponge.specs.Drawing.{check_witness, observe_extension}

@@ -1,11 +1,11 @@
 -- The depths of a number: one bit after another.
-use Rattle.std.proofs.Common.{◌≡◌, ℕ, zero, suc, ◌+◌, ◌-◌, ◌*◌, ◌%◌, ◌^◌, ◌<◌, ◌≤◌, true, false, cond, leb, ◌⊎◌, List, [], ◌∷◌, ◌++◌, length, sum_by, sym, refl, ap, ◌∙◌, subst, inl, inr, ⊎_elim, append_assoc, append-nil, zero-lt-suc, pow-suc, arith, pow_pos}
+use Rattle.std.proofs.Common.{◌≡◌, ℕ, zero, suc, ◌+◌, ◌-◌, ◌*◌, ◌%◌, ◌^◌, ◌<◌, ◌≤◌, leb, ◌⊎◌, List, [], ◌∷◌, ◌++◌, length, sum_by, sym, refl, ap, ◌∙◌, subst, inl, inr, ⊎_elim, append_assoc, append-nil, zero-lt-suc, pow-suc, arith, pow_pos}
 use Rattle.std.proofs.lemmas.Nat.{one_shl}
 use native.Mathlib.Decide.{le_ind}
 use lib.Count.{ones, ones_cat, count_leading_zeros, leading_top}
 use Rattle.std.proofs.lemmas.List.Sums.{sum_by-cons}
 use Rattle.std.proofs.lemmas.Bool.{cases_Bool, leb-true, leb-false, le-leb, lt-leb, cond-true, cond-false}
-use Rattle.transcript.specs.Depths.{set_bits, depths, Falling, Summands, DepthsSum}
+use Rattle.transcript.specs.Depths.{set_bits, depths, Falling, DepthsSum}
 
 pub double : (k : ℕ) → 2 ^ suc k ≡ 2 ^ k + 2 ^ k
 double k = pow-suc 2 k ∙ omega arith

@@ -1,9 +1,9 @@
 -- What a sponge holds after byte strings were observed one after another.
-use Rattle.std.proofs.Common.{◌≡◌, ℕ, zero, suc, ◌+◌, ◌-◌, ◌^◌, ◌<◌, ◌≤◌, true, false, cond, eqb, List, [], ◌∷◌, ◌++◌, map, Ok, codes, sym, refl, ap, ◌∙◌, add-one, arith}
+use Rattle.std.proofs.Common.{◌≡◌, ℕ, zero, suc, ◌+◌, ◌≤◌, cond, eqb, List, [], ◌∷◌, ◌++◌, map, Ok, codes, sym, refl, ap, ◌∙◌, add-one, arith}
 use Rattle.std.specs.List.{flat_map}
 use Rattle.std.proofs.lemmas.List.{map-append, append-nil}
 use Rattle.std.proofs.lemmas.Bool.{cond-true, cond-false, eq-eqb, ne_eqb}
-use Rattle.sponge.specs.Play.{Rules, Play, counted}
+use Rattle.sponge.specs.Play.{Rules, counted}
 use Rattle.sponge.specs.Plays.{Plays}
 use Rattle.transcript.specs.Steps.{Step, step_bytes, drawn_step, sent_step}
 use Rattle.transcript.specs.Pattern.{sample_steps}

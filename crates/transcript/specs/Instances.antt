@@ -1,5 +1,5 @@
 -- What is bound beside the steps: the numbers that the steps do not show.
-use Rattle.std.specs.Prelude.{ℕ, Bool, true, false, cond, List, [], ◌∷◌, ◌++◌, map, length}
+use Rattle.std.specs.Prelude.{ℕ, Bool, true, false, List, [], ◌∷◌, ◌++◌, map, length}
 use Rattle.std.specs.List.{flat_map}
 use Rattle.parameters.specs.Schedule.{Strategy, constant, second, per_round}
 use Rattle.transcript.specs.Bytes.{eight}

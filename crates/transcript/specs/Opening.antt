@@ -1,9 +1,9 @@
 -- The separator: what a run observes as it is opened.
 use Rattle.std.specs.Prelude.{ℕ, List, [], ◌∷◌, ◌++◌, map, codes}
 use Rattle.configuration.specs.Numbers.{Numbers}
-use Rattle.sponge.specs.Play.{Rules, Play, done, observe, ◌>>=◌, ◌>>◌}
+use Rattle.sponge.specs.Play.{Rules, Play, done, observe, ◌>>◌}
 use Rattle.transcript.specs.Steps.{Step, step_bytes}
-use Rattle.transcript.specs.Shape.{Shape, shape}
+use Rattle.transcript.specs.Shape.{shape}
 use Rattle.transcript.specs.Pattern.{pattern}
 use Rattle.transcript.specs.Instances.{instance_bytes, instances}
 

@@ -1,13 +1,12 @@
 -- The steps of a run, in order.
 use Rattle.std.specs.Prelude.{◌≡◌, ℕ, zero, suc, ◌-◌, ◌^◌, Bool, true, false, cond, List, [], ◌∷◌, ◌++◌, map, ◌==◌}
 use Rattle.std.specs.List.{flat_map}
-use Rattle.configuration.specs.Numbers.{Numbers}
 use Rattle.transcript.specs.declared.interaction.Hierarchy.{Hierarchy}
 use Rattle.transcript.specs.declared.interaction.Hierarchy.TheVariants.{Begin, End, Atomic}
 use Rattle.transcript.specs.declared.interaction.Label.{Label}
-use Rattle.transcript.specs.declared.interaction.Label.TheVariants.{InitialFold, Commitment, OodPoint, OodAnswer, QueryPow, QueryIndices, RoundBatching, RoundFold, FinalPoly, FinalQueryPow, FinalQueryIndices, FinalFold}
+use Rattle.transcript.specs.declared.interaction.Label.TheVariants.{InitialFold, OodPoint, OodAnswer, QueryPow, QueryIndices, RoundBatching, RoundFold, FinalPoly, FinalQueryPow, FinalQueryIndices, FinalFold}
 use Rattle.transcript.specs.Steps.{Step, bracket, commitment_step, drawn_step, sent_step, grinding_step, indices_step}
-use Rattle.transcript.specs.Shape.{Shape, RoundShape, shape}
+use Rattle.transcript.specs.Shape.{Shape, RoundShape}
 
 -- For each out-of-domain sample a point is drawn and an answer sent.
 abbrev pub sample_steps : ℕ → ℕ → List Step

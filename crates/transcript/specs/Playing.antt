@@ -1,5 +1,5 @@
 -- The steps of an open run that can fail, as plays.
-use Rattle.std.specs.Prelude.{◌≡◌, ℕ, ◌^◌, Bool, true, cond, not, ◌&&◌, T, List, [], ◌∷◌, length, Ok, Err, Result, ◌==◌}
+use Rattle.std.specs.Prelude.{◌≡◌, ℕ, ◌^◌, cond, not, ◌&&◌, T, List, [], ◌∷◌, length, Ok, Err, Result, ◌==◌}
 use Rattle.field.specs.Numbers.{Numbering}
 use Rattle.field.specs.Extension.{Extension}
 use Rattle.sponge.specs.Play.{Play, done, check, sure, ◌>>=◌, ◌>>◌}

@@ -1,5 +1,5 @@
 -- The positions that a phase opens, as a play.
-use Rattle.std.specs.Prelude.{◌≡◌, ℕ, zero, suc, ◌+◌, ◌-◌, ◌*◌, ◌^◌, ◌<◌, ◌≤◌, min, Bool, true, false, cond, List, [], ◌∷◌, ◌++◌, length, take, drop, Ok, ◌==◌}
+use Rattle.std.specs.Prelude.{◌≡◌, ℕ, zero, suc, ◌+◌, ◌-◌, ◌*◌, ◌^◌, ◌<◌, ◌≤◌, Bool, true, false, cond, List, [], ◌∷◌, ◌++◌, length, take, drop, Ok, ◌==◌}
 use Rattle.std.specs.List.{AllByRecursion as All}
 use Rattle.sponge.specs.Play.{Rules, Play, done, ◌>>=◌, each, counted, read}
 use Rattle.sponge.specs.Plays.{Plays}

@@ -1,5 +1,5 @@
 -- The numbers that fix the transcript of a run.
-use Rattle.std.specs.Prelude.{ℕ, suc, ◌^◌, min, Bool, List, map, length, slice_index_or}
+use Rattle.std.specs.Prelude.{ℕ, suc, ◌^◌, Bool, List, map, length, slice_index_or}
 use Rattle.parameters.specs.Schedule.{Strategy}
 use Rattle.sponge.specs.Play.{counted}
 use Rattle.configuration.specs.declared.whir_parameters.RoundConfig.{RoundConfig}

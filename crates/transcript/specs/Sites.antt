@@ -1,7 +1,7 @@
 -- Where a phase's queries are made.
 use Rattle.std.specs.Prelude.{◌≡◌, ℕ, ◌^◌, ◌<◌, ◌≤◌, min}
 use Rattle.configuration.specs.Numbers.{Numbers}
-use Rattle.configuration.specs.Phases.{log_positions_of, draws, rows}
+use Rattle.configuration.specs.Phases.{log_positions_of, draws}
 use Rattle.transcript.specs.Shape.{difficulty, last_phase}
 use Rattle.transcript.specs.declared.sites.QuerySite.{QuerySite}
 

@@ -1,7 +1,6 @@
 use Rattle.std.proofs.Common.{◌≡◌, ℕ, ◌+◌, ◌-◌, ◌*◌, ◌^◌, ◌<◌, ◌≤◌, min, List, length, take, drop, sym, ap, ◌∙◌, ⊎_elim, arith}
 use Rattle.std.proofs.lemmas.List.{drop_all}
 use Rattle.std.proofs.lemmas.Bool.{cases_lt}
-use Rattle.commit.proofs.Lists.{drop_to}
 use Rattle.commit.proofs.kept.shelf_row.Goals as goal
 
 start_is : {X : Type 0} (l : List X) (a b m s t : ℕ) → length l ≤ m → s ≡ min b m → t ≡ min (a + s) m → drop t l ≡ drop (a + b) l

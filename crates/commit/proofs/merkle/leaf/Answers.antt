@@ -1,4 +1,4 @@
-use Rattle.std.proofs.Common.{ℕ, List, [], ◌++◌, sym, ap, ◌∙◌, subst, append-nil}
+use Rattle.std.proofs.Common.{ℕ, List, [], sym, subst, append-nil}
 use Rattle.blake2s.specs.Absorbed.{Absorbed}
 use Rattle.commit.proofs.merkle.leaf.Goals as goal
 

@@ -1,4 +1,4 @@
-use Rattle.std.proofs.Common.{◌≡◌, suc, ◌+◌, sym, ap, ◌∙◌, arith, rules}
+use Rattle.std.proofs.Common.{arith, rules}
 use Rattle.commit.proofs.Trees.{levels_few, levels_more, levels_bound}
 use Rattle.commit.proofs.merkle.levels.Goals as goal
 

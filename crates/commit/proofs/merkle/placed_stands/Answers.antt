@@ -1,4 +1,4 @@
-use Rattle.std.proofs.Common.{◌≡◌, eqb, List, length}
+use Rattle.std.proofs.Common.{eqb, length}
 use Rattle.std.proofs.lemmas.Bool.{and_parts}
 use Rattle.blake2s.specs.Blake2s.{hash}
 use Rattle.field.specs.Bytes.{coefficients_bytes}

@@ -1,4 +1,4 @@
-use Rattle.std.proofs.Common.{◌≡◌, length, drop}
+use Rattle.std.proofs.Common.{◌≡◌, drop}
 use Rattle.configuration.specs.Phases.{same}
 use Rattle.configuration.proofs.checks.are_same.Given as goal
 

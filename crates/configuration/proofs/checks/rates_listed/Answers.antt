@@ -1,7 +1,5 @@
-use Rattle.std.proofs.Common.{◌≡◌, ◌<◌, length, get_or, sym, ◌∙◌, arith}
-use Rattle.std.proofs.lemmas.List.{length-map}
-use Rattle.configuration.specs.Phases.{rates_of, no_round}
-use Rattle.configuration.specs.declared.whir_parameters.RoundConfig.{RoundConfig}
+use Rattle.std.proofs.Common.{sym, ◌∙◌, arith}
+use Rattle.configuration.specs.Phases.{rates_of}
 use Rattle.configuration.proofs.Walks.{same_more, same_stop, same_end, same_apart}
 use Rattle.configuration.proofs.Rounds.{rates_length, rate_there}
 use Rattle.configuration.proofs.checks.rates_listed.Goals as goal

@@ -1,4 +1,4 @@
-use Rattle.std.proofs.Common.{sym, ◌∙◌}
+use Rattle.std.proofs.Common.{sym}
 use Rattle.configuration.specs.Limits.{round_within}
 use Rattle.configuration.specs.Phases.{no_round}
 use Rattle.configuration.proofs.Walks.{all_by_more, all_by_stop, all_by_all}

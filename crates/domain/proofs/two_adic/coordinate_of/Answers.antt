@@ -1,5 +1,4 @@
 use Rattle.std.proofs.Common.{sym, ◌∙◌}
-use Rattle.field.specs.Laws.{IsField}
 use Rattle.domain.specs.Powers.{expand_coordinate}
 use Rattle.domain.proofs.two_adic.coordinate_of.Goals as goal
 

@@ -1,5 +1,4 @@
-use Rattle.std.proofs.Common.{◌/◌, sym, ap, ◌∙◌, arith}
-use Rattle.field.specs.Laws.{IsField}
+use Rattle.std.proofs.Common.{◌/◌, ap, ◌∙◌, arith}
 use Rattle.multilinear.specs.Univariate.{pow}
 use Rattle.domain.specs.Powers.{odd_turn, even_turn, no_turns, all_turns}
 use Rattle.domain.proofs.two_adic.exp.Goals as goal

@@ -1,5 +1,4 @@
 use Rattle.std.proofs.Common.{arith}
-use Rattle.domain.specs.Subgroup.{TwoAdic}
 use Rattle.domain.proofs.two_adic.generator_of.Goals as goal
 
 pub squared-requires : goal.squared-requires

@@ -1,4 +1,4 @@
-use Rattle.std.proofs.Common.{◌≡◌, cond, Some, None, sym, ap, ◌∙◌, mod-eq_of_lt}
+use Rattle.std.proofs.Common.{Some, None, sym, ap, ◌∙◌, mod-eq_of_lt}
 use Rattle.std.proofs.lemmas.Bool.{cond_below}
 use Rattle.field.specs.Residues.{reduce}
 use Rattle.field.specs.ResiduesLemmas.{residue_path}

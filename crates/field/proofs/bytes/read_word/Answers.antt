@@ -1,4 +1,4 @@
-use Rattle.std.proofs.Common.{◌≡◌, ℕ, ◌+◌, get_or, sym, ap, ◌∙◌}
+use Rattle.std.proofs.Common.{ℕ, ◌+◌, get_or, sym, ap, ◌∙◌}
 use Rattle.field.specs.Bytes.{little_endian}
 use Rattle.field.proofs.Encoding.{four_reads, word_of, bytes_of}
 use Rattle.field.proofs.bytes.read_word.Goals as goal

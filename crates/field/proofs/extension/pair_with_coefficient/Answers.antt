@@ -1,4 +1,4 @@
-use Rattle.std.proofs.Common.{◌≡◌, ◌<◌, length, sym, ◌∙◌, arith}
+use Rattle.std.proofs.Common.{◌<◌, length, sym, ◌∙◌, arith}
 use Rattle.field.specs.Extensions.{set_left, set_right}
 use Rattle.field.proofs.extension.pair_with_coefficient.Goals as goal
 

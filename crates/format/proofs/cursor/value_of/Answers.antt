@@ -1,4 +1,4 @@
-use Rattle.format.proofs.Digits.{valued_none, valued_more, valued_all}
+use Rattle.format.proofs.Digits.{valued_more, valued_all}
 use Rattle.format.proofs.cursor.value_of.Goals as goal
 
 pub loop-byte-preserved : goal.loop-byte-preserved

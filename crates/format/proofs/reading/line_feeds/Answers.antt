@@ -1,4 +1,4 @@
-use Rattle.std.proofs.Common.{◌+◌, arith}
+use Rattle.std.proofs.Common.{arith}
 use Rattle.format.proofs.Feeds.{feeds_more, feeds_same, feeds_all}
 use Rattle.format.proofs.reading.line_feeds.Goals as goal
 use Rattle.format.proofs.reading.line_feeds.Goals.{then-byte-eq10, else-byte-eq10}

@@ -1,6 +1,5 @@
 use Rattle.std.proofs.Common.{sym, ◌∙◌, subst, rules}
 use Rattle.std.proofs.lemmas.Result.{err_from_is_err_and}
-use Rattle.std.proofs.lemmas.Bool.{ne_eqb}
 use Rattle.parameters.specs.Replies.{Reaches}
 use Rattle.parameters.proofs.Listed.{listed_some}
 use Rattle.parameters.proofs.folding.count_factors.Goals as goal

@@ -1,5 +1,5 @@
-use Rattle.std.proofs.Common.{◌≡◌, ◌-◌, min, List, [], ◌∷◌, ◌++◌, vec_items, sym, ap, ◌∙◌, subst}
-use Rattle.parameters.proofs.Folds.{Folding, folding_more, folding_all}
+use Rattle.std.proofs.Common.{[], ◌∷◌, vec_items}
+use Rattle.parameters.proofs.Folds.{folding_more, folding_all}
 use Rattle.parameters.proofs.folding.fold_all.Goals as goal
 
 pub loop-remaining-preserved : goal.loop-remaining-preserved

@@ -1,4 +1,4 @@
-use Rattle.std.proofs.Common.{◌≡◌, ◌^◌, ◌<◌, ◌++◌, vec_items, ap, arith}
+use Rattle.std.proofs.Common.{◌^◌, ◌<◌, ◌++◌, vec_items, ap, arith}
 use lib.Count.{ones-le}
 use Rattle.transcript.specs.Depths.{depths}
 use Rattle.transcript.proofs.Summing.{one_peeled, all_peeled, power_some}

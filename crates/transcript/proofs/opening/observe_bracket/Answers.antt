@@ -1,5 +1,5 @@
 use Rattle.std.proofs.Common.{[], ◌∷◌}
-use Rattle.transcript.specs.Steps.{step_bytes, step_of, marker}
+use Rattle.transcript.specs.Steps.{step_bytes, marker}
 use Rattle.transcript.specs.declared.interaction.Hierarchy.TheVariants.{Begin, End}
 use Rattle.transcript.proofs.Taking.{taken_on, taken_same}
 use Rattle.transcript.proofs.opening.observe_bracket.Goals as goal

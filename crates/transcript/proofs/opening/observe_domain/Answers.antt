@@ -1,4 +1,4 @@
-use Rattle.std.proofs.Common.{◌≡◌, true, false, length, sym, ap, ◌∙◌, arith}
+use Rattle.std.proofs.Common.{length, sym, ap, ◌∙◌}
 use Rattle.std.proofs.lemmas.Bool.{eqb-true, eqb-false}
 use Rattle.transcript.proofs.Describing.{domain_taken, no_domain, flag_byte}
 use Rattle.transcript.proofs.opening.observe_domain.Goals as goal

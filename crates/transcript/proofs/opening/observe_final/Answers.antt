@@ -1,4 +1,4 @@
-use Rattle.std.proofs.Common.{[], ◌∷◌, ◌∙◌}
+use Rattle.std.proofs.Common.{◌∙◌}
 use Rattle.configuration.specs.Numbers.{numbers_of}
 use Rattle.transcript.specs.Steps.{step_bytes, bracket}
 use Rattle.transcript.specs.declared.interaction.Label.TheVariants.{FinalFold}

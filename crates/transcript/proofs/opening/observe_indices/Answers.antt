@@ -1,4 +1,4 @@
-use Rattle.std.proofs.Common.{[], ◌∷◌, sym, ap, ◌∙◌}
+use Rattle.std.proofs.Common.{[], ◌∷◌, sym, ap}
 use Rattle.transcript.specs.Depths.{depths}
 use Rattle.transcript.specs.Pattern.{query_steps}
 use Rattle.transcript.specs.Steps.{step_bytes, indices_step}

@@ -1,4 +1,4 @@
-use Rattle.std.proofs.Common.{◌≡◌, ◌^◌, ◌<◌, ap, ◌∙◌, arith}
+use Rattle.std.proofs.Common.{◌^◌, ◌<◌, ap, ◌∙◌, arith}
 use Rattle.configuration.specs.Numbers.{numbers_of}
 use Rattle.transcript.proofs.Siting.{shifted, id_short}
 use Rattle.transcript.proofs.Describing.{instances_taken}

@@ -1,4 +1,4 @@
-use Rattle.std.proofs.Common.{ap, ◌∙◌}
+use Rattle.std.proofs.Common.{◌∙◌}
 use Rattle.transcript.specs.Instances.{instance_bytes}
 use Rattle.transcript.proofs.Writing.{eight_bytes}
 use Rattle.transcript.proofs.Taking.{taken_none}

@@ -1,4 +1,4 @@
-use Rattle.std.proofs.Common.{◌<◌, length, vec_items, ap, arith}
+use Rattle.std.proofs.Common.{vec_items, ap}
 use Rattle.std.proofs.lemmas.List.{get_or_read}
 use Rattle.configuration.specs.Numbers.{numbers_of}
 use Rattle.configuration.specs.Phases.{no_round}

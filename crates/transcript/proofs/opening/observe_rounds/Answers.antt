@@ -1,11 +1,10 @@
-use Rattle.std.proofs.Common.{◌≡◌, ◌<◌, map, length, vec_items, ap, ◌∙◌, arith}
+use Rattle.std.proofs.Common.{◌≡◌, map, length, vec_items, ap, arith}
 use Rattle.std.specs.List.{flat_map}
 use Rattle.sponge.specs.Play.{counted}
 use Rattle.configuration.specs.Numbers.{numbers_of}
 use Rattle.transcript.specs.Steps.{step_bytes}
 use Rattle.transcript.specs.Shape.{round_shape}
 use Rattle.transcript.specs.Pattern.{round_steps}
-use Rattle.transcript.specs.Opening.{taken}
 use Rattle.transcript.proofs.Taking.{taken_on, taken_as, taken_none, joined_push}
 use Rattle.transcript.proofs.opening.observe_rounds.Goals as goal
 

@@ -1,4 +1,4 @@
-use Rattle.std.proofs.Common.{◌≡◌, [], ◌∷◌, ◌++◌, arith}
+use Rattle.std.proofs.Common.{[], ◌∷◌}
 use Rattle.transcript.specs.Steps.{step_bytes, drawn_step, sent_step}
 use Rattle.transcript.specs.Pattern.{sample_steps}
 use Rattle.transcript.specs.declared.interaction.Label.TheVariants.{OodPoint, OodAnswer}

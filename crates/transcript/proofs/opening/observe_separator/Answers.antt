@@ -1,4 +1,3 @@
-use Rattle.std.proofs.Common.{◌∙◌}
 use Rattle.configuration.specs.Numbers.{numbers_of}
 use Rattle.transcript.specs.Opening.{separator}
 use Rattle.transcript.specs.Shape.{shape}

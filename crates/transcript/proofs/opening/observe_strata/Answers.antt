@@ -1,4 +1,3 @@
-use Rattle.std.proofs.Common.{refl}
 use Rattle.transcript.specs.Steps.{step_of}
 use Rattle.transcript.proofs.Summing.{power_some}
 use Rattle.transcript.proofs.Describing.{stratum_taken, strata_taken}

@@ -1,4 +1,4 @@
-use Rattle.std.proofs.Common.{[], ◌∷◌, vec_items, ◌∙◌}
+use Rattle.std.proofs.Common.{[], vec_items, ◌∙◌}
 use Rattle.parameters.specs.declared.folding.FoldingFactor.TheVariants.{Constant, ConstantFromSecondRound, PerRound}
 use Rattle.transcript.proofs.Describing.{strategy_taken, listed_taken}
 use Rattle.transcript.proofs.opening.observe_strategy.Goals as goal

@@ -1,4 +1,4 @@
-use Rattle.std.proofs.Common.{◌<◌, ◌≤◌, ap, ◌∙◌, arith}
+use Rattle.std.proofs.Common.{◌<◌, arith}
 use Rattle.transcript.proofs.Summing.{power_some}
 use Rattle.transcript.proofs.Siting.{shifted}
 use Rattle.transcript.proofs.Filling.{strata_begin, strata_more, strata_end}

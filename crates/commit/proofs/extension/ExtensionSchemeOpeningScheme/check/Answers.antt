@@ -1,4 +1,4 @@
-use Rattle.std.proofs.Common.{sym, ◌∙◌}
+use Rattle.std.proofs.Common.{◌∙◌}
 use Rattle.commit.proofs.Spreads.{some_degree, opens_same}
 use Rattle.commit.proofs.extension.ExtensionSchemeOpeningScheme.check.Goals as goal
 

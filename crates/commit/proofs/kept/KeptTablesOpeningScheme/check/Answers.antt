@@ -1,8 +1,8 @@
-use Rattle.std.proofs.Common.{◌≡◌, ◌*◌, true, false, ◌&&◌, eqb, length, get_or, sym, refl, ap, ◌∙◌, mul-zero}
+use Rattle.std.proofs.Common.{◌*◌, true, false, eqb, length, get_or, sym, refl, ◌∙◌, mul-zero}
 use Rattle.std.proofs.lemmas.Bool.{eqb-true, eq-eqb}
 use Rattle.commit.specs.Opening.{piece, rows_right}
 use Rattle.commit.specs.Shelves.{kept}
-use Rattle.commit.proofs.Lists.{rows_more, rows_wrong, rows_all, all_three, first_fails, second_fails, piece_long}
+use Rattle.commit.proofs.Lists.{rows_more, rows_wrong, rows_all, all_three, piece_long}
 use Rattle.commit.proofs.ShelfLaws.{shelf_right}
 use Rattle.commit.proofs.kept.KeptTablesOpeningScheme.check.Goals as goal
 

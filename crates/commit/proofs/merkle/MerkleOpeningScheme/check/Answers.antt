@@ -1,8 +1,8 @@
-use Rattle.std.proofs.Common.{◌≡◌, ◌*◌, true, false, ◌&&◌, eqb, length, get_or, sym, ap, ◌∙◌}
+use Rattle.std.proofs.Common.{◌*◌, true, false, eqb, length, get_or, sym, ap, ◌∙◌}
 use Rattle.std.proofs.lemmas.Bool.{eqb-true}
 use Rattle.commit.specs.Opening.{piece, rows_right}
 use Rattle.commit.specs.Tree.{merkle}
-use Rattle.commit.proofs.Lists.{rows_more, rows_wrong, rows_all, all_three, first_fails, second_fails, piece_long}
+use Rattle.commit.proofs.Lists.{rows_more, rows_wrong, rows_all, all_three, piece_long}
 use Rattle.commit.proofs.TreeLaws.{tree_right}
 use Rattle.commit.proofs.merkle.MerkleOpeningScheme.check.Goals as goal
 

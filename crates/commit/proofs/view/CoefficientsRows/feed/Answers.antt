@@ -1,5 +1,4 @@
-use Rattle.std.proofs.Common.{◌≡◌, List, [], ◌++◌, sym, ap, subst, append-nil}
-use Rattle.commit.specs.Opening.{piece}
+use Rattle.std.proofs.Common.{List, [], ◌++◌, sym, subst, append-nil}
 use Rattle.commit.proofs.Spreads.{spread_piece}
 use Rattle.commit.proofs.view.CoefficientsRows.feed.Goals as goal
 

@@ -1,4 +1,4 @@
-use Rattle.std.proofs.Common.{◌+◌, ◌-◌, min, take, vec_items, sum, unwrap_or, sym, ap, ◌∙◌}
+use Rattle.std.proofs.Common.{◌-◌, take, vec_items, sum, unwrap_or, sym, ap, ◌∙◌}
 use Rattle.configuration.specs.Numbers.{numbers_of}
 use Rattle.configuration.proofs.Views.{final_there, value_nth}
 use Rattle.configuration.proofs.whir.WhirConfig.final_round_config.Goals as goal

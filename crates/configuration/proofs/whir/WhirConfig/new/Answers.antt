@@ -1,4 +1,4 @@
-use Rattle.std.proofs.Common.{◌≡◌, vec_items, sym, ap, ◌∙◌}
+use Rattle.std.proofs.Common.{vec_items, sym}
 use Rattle.std.proofs.lemmas.Result.{err_from_is_err_and}
 use Rattle.std.specs.declared.alloc.Global.{Global}
 use Rattle.configuration.specs.Numbers.{numbers_of}

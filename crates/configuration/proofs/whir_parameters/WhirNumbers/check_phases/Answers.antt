@@ -2,7 +2,6 @@ use Rattle.std.proofs.Common.{sym}
 use Rattle.configuration.specs.Numbers.{numbers_of}
 use Rattle.configuration.proofs.Rounds.{domains_small}
 use Rattle.configuration.proofs.Phased.{parts}
-use Rattle.configuration.proofs.Faults.{phases_inconsistent, phases_limit, phases_fine}
 use Rattle.configuration.proofs.whir_parameters.WhirNumbers.check_phases.Goals as goal
 
 pub openings_within-requires : goal.openings_within-requires

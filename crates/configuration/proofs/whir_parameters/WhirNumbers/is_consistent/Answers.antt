@@ -1,7 +1,7 @@
 use Rattle.std.proofs.Common.{◌≡◌, ◌+◌, eqb, length, vec_items, sym, ap, ◌∙◌, arith}
-use Rattle.std.proofs.lemmas.Bool.{and_left, and_right, ne_eqb, eq-eqb}
+use Rattle.std.proofs.lemmas.Bool.{and_left, and_right, ne_eqb}
 use Rattle.configuration.specs.Numbers.{numbers_of}
-use Rattle.configuration.specs.Phases.{consistent, same, every, domain_fits, phase_agrees, left}
+use Rattle.configuration.specs.Phases.{consistent, same, every, left}
 use Rattle.configuration.proofs.Rounds.{domains_small, left_all, consistent_last}
 use Rattle.configuration.proofs.whir_parameters.WhirNumbers.is_consistent.Goals as goal
 

@@ -1,6 +1,6 @@
-use Rattle.std.proofs.Common.{◌≡◌, ◌&&◌, leb, length, get_or, sym, refl, ap, ◌∙◌, arith}
+use Rattle.std.proofs.Common.{length, sym, refl, ◌∙◌}
 use Rattle.configuration.specs.Numbers.{numbers_of}
-use Rattle.configuration.specs.Phases.{every, opening_within, openings_within, rows_at}
+use Rattle.configuration.specs.Phases.{every, opening_within, openings_within}
 use Rattle.configuration.proofs.Walks.{every_more, every_stop, every_end}
 use Rattle.configuration.proofs.Rounds.{left_more, left_none, opening_there}
 use Rattle.configuration.proofs.whir_parameters.WhirNumbers.openings_within.Goals as goal

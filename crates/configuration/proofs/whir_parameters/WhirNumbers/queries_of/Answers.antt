@@ -1,6 +1,5 @@
 use Rattle.std.proofs.Common.{vec_items, arith}
 use Rattle.configuration.proofs.Rounds.{read_number, no_number}
-use Rattle.configuration.specs.declared.whir_parameters.RoundConfig.{RoundConfig}
 use Rattle.configuration.proofs.whir_parameters.WhirNumbers.queries_of.Goals as goal
 
 pub returns-then-phase-len : goal.returns-then-phase-len

@@ -1,4 +1,4 @@
-use Rattle.std.proofs.Common.{◌≡◌, ◌+◌, ◌<◌, length, vec_items, sym, refl, ap, ◌∙◌, arith}
+use Rattle.std.proofs.Common.{◌<◌, length, vec_items, sym, refl, ◌∙◌, arith}
 use Rattle.configuration.specs.Numbers.{numbers_of}
 use Rattle.configuration.specs.Phases.{every, rate_follows}
 use Rattle.configuration.proofs.Walks.{every_more, every_stop}

@@ -1,4 +1,3 @@
-use Rattle.field.specs.Laws.{IsField}
 use Rattle.domain.proofs.Lawful.{listed_lawful}
 use Rattle.domain.proofs.listed.ListedDomainWhirDomain.keeps_distance.Goals as goal
 

@@ -1,4 +1,3 @@
-use Rattle.field.specs.Laws.{IsField}
 use Rattle.domain.proofs.Lawful.{subgroup_lawful}
 use Rattle.domain.proofs.subgroup.SubgroupDomainWhirDomain.keeps_distance.Goals as goal
 

@@ -1,6 +1,6 @@
-use Rattle.std.proofs.Common.{eqb, ltb, ◌∙◌}
+use Rattle.std.proofs.Common.{eqb}
 use Rattle.std.proofs.lemmas.Result.{err_from_is_err_and}
-use Rattle.std.proofs.lemmas.Bool.{eq-eqb, ne_eqb, lt-ltb, le-ltb, cond-true, cond-false}
+use Rattle.std.proofs.lemmas.Bool.{eq-eqb, ne_eqb, cond-true, cond-false}
 use Rattle.format.specs.Lines.{line_index}
 use Rattle.format.proofs.Chains.{follows, breaks}
 use Rattle.format.proofs.cursor.Cursor.index.Goals as goal

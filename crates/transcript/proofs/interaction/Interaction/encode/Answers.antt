@@ -1,5 +1,5 @@
-use Rattle.std.proofs.Common.{◌≡◌, ◌≤◌, [], ◌∷◌, ◌++◌, length, ap, ◌∙◌, arith}
-use Rattle.transcript.specs.Steps.{step_bytes, label_bytes}
+use Rattle.std.proofs.Common.{◌≤◌, [], ◌∷◌, ◌++◌, length, ap, ◌∙◌, arith}
+use Rattle.transcript.specs.Steps.{step_bytes}
 use Rattle.transcript.specs.Written.{written}
 use Rattle.transcript.proofs.Writing.{label_short, eight_bytes, step_written}
 use Rattle.transcript.proofs.interaction.Interaction.encode.Goals as goal

@@ -1,4 +1,4 @@
-use Rattle.std.proofs.Common.{◌≡◌, ◌-◌, ◌≤◌, length, take, sym, ap, ◌∙◌, arith}
+use Rattle.std.proofs.Common.{◌≡◌, length, arith}
 use Rattle.transcript.proofs.Writing.{clamped}
 use Rattle.transcript.proofs.piece.Piece.as_slice.Goals as goal
 
