@@ -3,7 +3,7 @@ use Rattle.std.proofs.Common.{◌≡◌, ℕ, ◌^◌, List, ◌++◌, map, leng
 use Rattle.ring.specs.Ring.{Ops, IsRing}
 use Rattle.field.specs.Laws.{IsField}
 use Rattle.multilinear.specs.declared.order.VariableOrder.{VariableOrder}
-use Rattle.std.specs.List.{AllByRecursion as All}
+use Rattle.std.specs.List.{AllByRecursion}
 use Rattle.multilinear.specs.Tables.{orient, cube, view, folded}
 use Rattle.multilinear.specs.Laws.{Multilinear}
 use Rattle.multilinear.proofs.Algebra as A
@@ -30,18 +30,18 @@ module _ {E : Type 0} (F : Ops E) (K : IsField F) (o : VariableOrder) where
   L = K.ring
 
   -- own rows tell the next table's values
-  own_rows : (n : ℕ) (g' g rs : List E) → g' ≡ folded F o n g rs → (qs : List (Query E)) → All (OwnRow F o (length rs) n g) qs → All (TrueOf F g') (map (queried F o rs) qs)
+  own_rows : (n : ℕ) (g' g rs : List E) → g' ≡ folded F o n g rs → (qs : List (Query E)) → AllByRecursion (OwnRow F o (length rs) n g) qs → AllByRecursion (TrueOf F g') (map (queried F o rs) qs)
   own_rows n g' g rs e qs h =
       All-map (TrueOf F g') (queried F o rs) qs
       (All-weaker (OwnRow F o (length rs) n g) (λ q. TrueOf F g' (queried F o rs q)) (λ q t. W.row_true F K o n g rs q t.point t.own ∙ ap (λ z. worth F z (queried F o rs q)) (sym e)) qs h)
 
-  points : (k n : ℕ) (g : List E) (qs : List (Query E)) → All (OwnRow F o k n g) qs → All (λ q. length q.point ≡ n) qs
+  points : (k n : ℕ) (g : List E) (qs : List (Query E)) → AllByRecursion (OwnRow F o k n g) qs → AllByRecursion (λ q. length q.point ≡ n) qs
   points k n g qs h = All-weaker (OwnRow F o k n g) (λ q. length q.point ≡ n) (λ q t. t.point) qs h
 
-  lawfuls : (n : ℕ) (g : List E) (qs : List (Claim E)) → All (TrueClaim F o n g) qs → All (Extends F n) qs
+  lawfuls : (n : ℕ) (g : List E) (qs : List (Claim E)) → AllByRecursion (TrueClaim F o n g) qs → AllByRecursion (Extends F n) qs
   lawfuls n g qs h = All-weaker (TrueClaim F o n g) (Extends F n) (λ q t. t.lawful) qs h
 
-  trues : (n : ℕ) (g : List E) (qs : List (Claim E)) → All (TrueClaim F o n g) qs → All (TrueOf F g) qs
+  trues : (n : ℕ) (g : List E) (qs : List (Claim E)) → AllByRecursion (TrueClaim F o n g) qs → AllByRecursion (TrueOf F g) qs
   trues n g qs h = All-weaker (TrueClaim F o n g) (TrueOf F g) (λ q t. t.holds) qs h
 
   honest_lawful : (tail : Tail E) (g rs : List E) (gs : ℕ → List E) (V : List E → E) → Honest F o g rs gs V tail → N.Lawful F K o rs tail
@@ -65,8 +65,8 @@ module _ {E : Type 0} (F : Ops E) (K : IsField F) (o : VariableOrder) where
       let new : List (Claim E) = fresh F o rs qs samples in
       let len : length (gs 0) ≡ 2 ^ before ss (left tail) = ap length h.folds ∙ W.length_folded F K o n g rs in
       let mV' : Multilinear F (joint F o V new γ) = W.ml_joint F K o V mV new γ in
-      let laws : All (Extends F n) new = W.fresh_lawful F K o n rs qs samples (points (length rs) n g qs h.rows) (lawfuls n g' samples h.sampled) in
-      let true : All (TrueOf F g') new = All-append (TrueOf F g') samples (map (queried F o rs) qs) (trues n g' samples h.sampled) (own_rows n g' g rs h.folds qs h.rows) in
+      let laws : AllByRecursion (Extends F n) new = W.fresh_lawful F K o n rs qs samples (points (length rs) n g qs h.rows) (lawfuls n g' samples h.sampled) in
+      let true : AllByRecursion (TrueOf F g') new = All-append (TrueOf F g') samples (map (queried F o rs) qs) (trues n g' samples h.sampled) (own_rows n g' g rs h.folds qs h.rows) in
       let batch : joined F c new γ ≡ cube F n (λ x. joint F o V new γ x ⊗ view F o g' x) =
       W.round_complete F K o n g' V c new γ len laws (e ∙ sym (W.cube_folded F K o n g' g rs V h.folds)) true in
       tail_complete tail g' (draws ss) (onward gs) (λ x. joint F o V new γ (draws ss ++ x)) (after F (joined F c new γ) ss) (M.ml_after F L (joint F o V new γ) (draws ss) mV') h.rest
@@ -84,13 +84,13 @@ module _ {E : Type 0} (F : Ops E) (K : IsField F) (o : VariableOrder) where
       ∙ sym (ap (λ z. z ⊗ view F o (polynomial tail) (last_draws tail)) (N.joint_at F K o rs qs samples γ ss tail V lawful))
 
   pub run_complete : (gs : ℕ → List E) (claims : List (Claim E)) (α : E) (ss : List (Step E)) (tail : Tail E)
-      → length (gs 0) ≡ 2 ^ before ss (left tail) → All (TrueClaim F o (before ss (left tail)) (gs 0)) claims → TrueSteps F ss (left tail) (weight F o claims α) (view F o (gs 0))
+      → length (gs 0) ≡ 2 ^ before ss (left tail) → AllByRecursion (TrueClaim F o (before ss (left tail)) (gs 0)) claims → TrueSteps F ss (left tail) (weight F o claims α) (view F o (gs 0))
       → Honest F o (gs 0) (draws ss) (onward gs) (λ x. weight F o claims α (draws ss ++ x)) tail → Accepted F o claims α ss tail
   run_complete gs claims α ss tail len claimed messages honest =
       let g : List E = gs 0 in
       let n : ℕ = before ss (left tail) in
       let V : List E → E = weight F o claims α in
-      let laws : All (Extends F n) claims = lawfuls n g claims claimed in
+      let laws : AllByRecursion (Extends F n) claims = lawfuls n g claims claimed in
       let mV : Multilinear F V = W.ml_weight F K o claims α in
       let there : V (draws ss ++ all_draws tail) ≡ weight_at F claims α (orient o (draws ss ++ all_draws tail)) =
       W.weight_point F K o n claims α (draws ss ++ all_draws tail) laws (D.length_draws ss (all_draws tail) ∙ ap (before ss) (N.length_all_draws tail)) in

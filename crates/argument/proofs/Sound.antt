@@ -4,7 +4,7 @@ use mathlib.Core.List.{List-discrete}
 use Rattle.ring.specs.Ring.{Ops, IsRing}
 use Rattle.field.specs.Laws.{IsField}
 use Rattle.multilinear.specs.declared.order.VariableOrder.{VariableOrder}
-use Rattle.std.specs.List.{AllByRecursion as All}
+use Rattle.std.specs.List.{AllByRecursion}
 use Rattle.argument.specs.Roots.{Any, Root}
 use Rattle.multilinear.specs.Tables.{orient, cube, view, position, folded, row}
 use Rattle.multilinear.specs.Laws.{Multilinear}
@@ -39,11 +39,11 @@ module _ {E : Type 0} (F : Ops E) (K : IsField F) (o : VariableOrder) where
   -- the claims of every round have the law
   abbrev pub Lawful : List E → Tail E → Type 0
   Lawful rs (end f qs ss) = Unit {0}
-  Lawful rs (round qs samples γ ss tail) = All (Extends F (before ss (left tail))) (fresh F o rs qs samples) × Lawful (draws ss) tail
+  Lawful rs (round qs samples γ ss tail) = AllByRecursion (Extends F (before ss (left tail))) (fresh F o rs qs samples) × Lawful (draws ss) tail
 
   -- the closing check taken apart by rounds: under the carried weight V and claim c all that is left passes
   abbrev pub Passes : List E → (List E → E) → E → Tail E → Type 0
-  Passes rs V c (end f qs ss) = All (TrueOf F f) (map (queried F o rs) qs) × (after F c ss ≡ V (draws ss) ⊗ view F o f (draws ss))
+  Passes rs V c (end f qs ss) = AllByRecursion (TrueOf F f) (map (queried F o rs) qs) × (after F c ss ≡ V (draws ss) ⊗ view F o f (draws ss))
   Passes rs V c (round qs samples γ ss tail) =
       Passes (draws ss) (λ x. joint F o V (fresh F o rs qs samples) γ (draws ss ++ x)) (after F (joined F c (fresh F o rs qs samples) γ) ss) tail
 
@@ -68,8 +68,8 @@ module _ {E : Type 0} (F : Ops E) (K : IsField F) (o : VariableOrder) where
   tables? = List-discrete K.decide
 
   -- the values queried are those of both tables
-  both : (g h : List E) (rs : List E) (qs : List (Query E)) → All (TrueOf F g) (map (queried F o rs) qs) → All (TrueOf F h) (map (queried F o rs) qs)
-      → All (λ q. position F g q.point ≡ position F h q.point) qs
+  both : (g h : List E) (rs : List E) (qs : List (Query E)) → AllByRecursion (TrueOf F g) (map (queried F o rs) qs) → AllByRecursion (TrueOf F h) (map (queried F o rs) qs)
+      → AllByRecursion (λ q. position F g q.point ≡ position F h q.point) qs
   unfolding position
   both g h rs [] a b = tt
   both g h rs (q ∷ qs) a b = (sym a.0 ∙ b.0, both g h rs qs a.1 b.1)
@@ -77,14 +77,14 @@ module _ {E : Type 0} (F : Ops E) (K : IsField F) (o : VariableOrder) where
   module _ (digest : List ℕ → List ℕ) where
     -- rows that are right tell the folded table's values, or lists collide
     rows_true : (p : Phase E) (rs : List E) (m : ℕ) (qs : List (Query E)) → Opens F digest o p (length rs) m qs
-        → All (TrueOf F (folded F o m p.table rs)) (map (queried F o rs) qs) ⊎ Clash digest p
+        → AllByRecursion (TrueOf F (folded F o m p.table rs)) (map (queried F o rs) qs) ⊎ Clash digest p
     rows_true p rs m qs op =
         elim (Q.all_or (λ q. q.opened ≡ row F o (length rs) p.table q.point) (Clash digest p) qs op.rows) [
           | inl right ↦ inl (true_of right)
           | inr x ↦ inr x
         ]
       where
-        true_of : All (λ q. q.opened ≡ row F o (length rs) p.table q.point) qs → All (TrueOf F (folded F o m p.table rs)) (map (queried F o rs) qs)
+        true_of : AllByRecursion (λ q. q.opened ≡ row F o (length rs) p.table q.point) qs → AllByRecursion (TrueOf F (folded F o m p.table rs)) (map (queried F o rs) qs)
         true_of right =
             All-map (TrueOf F (folded F o m p.table rs)) (queried F o rs) qs
             (Q.all_both (λ q. length q.point ≡ m) (λ q. q.opened ≡ row F o (length rs) p.table q.point) (λ q. TrueOf F (folded F o m p.table rs) (queried F o rs q))
@@ -100,11 +100,11 @@ module _ {E : Type 0} (F : Ops E) (K : IsField F) (o : VariableOrder) where
 
     -- the claim on the next table is one on the table before, or the two are alike, or lists collide
     module _ (p : Phase E) (rs : List E) (m : ℕ) (qs : List (Query E)) (g' : List E) (V : List E → E) (c : E) (op : Opens F digest o p (length rs) m qs) (len : length g' ≡ 2 ^ m)
-        (true : All (TrueOf F g') (map (queried F o rs) qs)) (claim : c ≡ cube F m (λ x. V x ⊗ view F o g' x)) where
+        (true : AllByRecursion (TrueOf F g') (map (queried F o rs) qs)) (claim : c ≡ cube F m (λ x. V x ⊗ view F o g' x)) where
       abbrev Fits : Type 0
       Fits = (c ≡ cube F m (λ x. V x ⊗ view F o p.table (rs ++ x))) ⊎ (Alike F g' (folded F o m p.table rs) qs p.positions ⊎ Clash digest p)
 
-      by_tables : All (TrueOf F (folded F o m p.table rs)) (map (queried F o rs) qs) → Dec (g' ≡ folded F o m p.table rs) → Fits
+      by_tables : AllByRecursion (TrueOf F (folded F o m p.table rs)) (map (queried F o rs) qs) → Dec (g' ≡ folded F o m p.table rs) → Fits
       by_tables old (yes e) = inl (claim ∙ W.cube_folded F K o m g' p.table rs V e)
       by_tables old (no ne) =
           inr (inl (record {
@@ -147,10 +147,10 @@ module _ {E : Type 0} (F : Ops E) (K : IsField F) (o : VariableOrder) where
       abbrev Aim : Type 0
       Aim = (c ≡ cube F n (λ x. V x ⊗ view F o p.table (rs ++ x))) ⊎ Accident F digest o p rs ps V c (round qs samples γ ss tail)
 
-      lawful : All (Extends F n) new
+      lawful : AllByRecursion (Extends F n) new
       lawful = W.fresh_lawful F K o n rs qs samples behind.opens.points behind.sampled
 
-      by_claims : ((c ≡ cube F n (λ x. V x ⊗ view F o g' x)) × All (TrueOf F g') new) ⊎ Root F (round_error F o n g' V c new) γ → Aim
+      by_claims : ((c ≡ cube F n (λ x. V x ⊗ view F o g' x)) × AllByRecursion (TrueOf F g') new) ⊎ Root F (round_error F o n g' V c new) γ → Aim
       by_claims (inl t) =
           elim (fits p rs n qs g' V c behind.opens behind.sized (Q.all_right (TrueOf F g') samples (map (queried F o rs) qs) t.1) t.0) [
             | inl e ↦ inl e
@@ -183,8 +183,8 @@ module _ {E : Type 0} (F : Ops E) (K : IsField F) (o : VariableOrder) where
 
     -- the whole run
     pub run_sound : (ps : ℕ → Phase E) (claims : List (Claim E)) (α : E) (ss : List (Step E)) (tail : Tail E)
-        → length (ps 0).table ≡ 2 ^ before ss (left tail) → All (Extends F (before ss (left tail))) claims → Behind F digest o (ps 0) (draws ss) (onward ps) tail
-        → Accepted F o claims α ss tail → All (TrueOf F (ps 0).table) claims ⊎ AnyAccident F digest o ps claims α ss tail
+        → length (ps 0).table ≡ 2 ^ before ss (left tail) → AllByRecursion (Extends F (before ss (left tail))) claims → Behind F digest o (ps 0) (draws ss) (onward ps) tail
+        → Accepted F o claims α ss tail → AllByRecursion (TrueOf F (ps 0).table) claims ⊎ AnyAccident F digest o ps claims α ss tail
     run_sound ps claims α ss tail len laws behind acc =
         let g : List E = (ps 0).table in
         let V : List E → E = weight F o claims α in
@@ -210,7 +210,7 @@ pub all_opened_never_alike : {E : Type 0} (F : Ops E) → AllOpenedNeverAlike F
 all_opened_never_alike {E} F g h qs positions e a =
     let P : List E → Type 0 = λ p. position F g p ≡ position F h p in
     Q.not_both P positions
-    (subst (All P) (sym e) (All-map P (λ q. q.point) qs a.opened)) a.elsewhere
+    (subst (AllByRecursion P) (sym e) (All-map P (λ q. q.point) qs a.opened)) a.elsewhere
 
 pub distinct_tell_apart : {E : Type 0} (F : Ops E) → IsField F → DistinctElementsTellApart F
 distinct_tell_apart {E} F K m vs distinct many g h lg lh same = by_cases (List-discrete K.decide g h)

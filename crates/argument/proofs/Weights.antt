@@ -4,7 +4,7 @@ use mathlib.Core.Path.{fun_ext}
 use Rattle.ring.specs.Ring.{Ops, IsRing}
 use Rattle.field.specs.Laws.{IsField}
 use Rattle.multilinear.specs.declared.order.VariableOrder.{VariableOrder}
-use Rattle.std.specs.List.{AllByRecursion as All}
+use Rattle.std.specs.List.{AllByRecursion}
 use Rattle.multilinear.specs.Tables.{orient, eq, select, dot, cube, tabulate, value, view, position, folded, row}
 use Rattle.ring.specs.Polynomials.{value as at}
 use Rattle.multilinear.specs.Laws.{Multilinear}
@@ -83,18 +83,18 @@ module _ {E : Type 0} (F : Ops E) (K : IsField F) where
         ∙ ap (λ z. cube F n (λ x. W x ⊗ view F o g x) ⊕ z) (S.cube_scale F L n α (λ x. weight F o qs α x ⊗ view F o g x) ∙ ap (λ z. α ⊗ z) ih)
 
     -- the sum under a weight by powers is the sums by powers
-    pub weight_cube : (n : ℕ) (g : List E) → length g ≡ 2 ^ n → (α : E) (qs : List (Claim E)) → All (Extends F n) qs
+    pub weight_cube : (n : ℕ) (g : List E) → length g ≡ 2 ^ n → (α : E) (qs : List (Claim E)) → AllByRecursion (Extends F n) qs
         → cube F n (λ x. weight F o qs α x ⊗ view F o g x) ≡ at F (map (worth F g) qs) α
     weight_cube n g h α [] a = ap (cube F n) (fun_ext (λ x. A.zero-mul F L (view F o g x))) ∙ S.cube_nothing F L n
     weight_cube n g h α (q ∷ qs) a =
         joint_step n g α (view F o q.corners) qs (weight_cube n g h α qs a.1) ∙ ap (λ z. z ⊕ α ⊗ at F (map (worth F g) qs) α) (worth_cube n g h q a.0)
 
-    pub joint_cube : (n : ℕ) (g : List E) → length g ≡ 2 ^ n → (W : List E → E) (qs : List (Claim E)) (γ : E) → All (Extends F n) qs
+    pub joint_cube : (n : ℕ) (g : List E) → length g ≡ 2 ^ n → (W : List E → E) (qs : List (Claim E)) (γ : E) → AllByRecursion (Extends F n) qs
         → cube F n (λ x. joint F o W qs γ x ⊗ view F o g x) ≡ at F (cube F n (λ x. W x ⊗ view F o g x) ∷ map (worth F g) qs) γ
     joint_cube n g h W qs γ a = joint_step n g γ W qs (weight_cube n g h γ qs a)
 
     -- the weights at a point are those of the draws that stand for it
-    pub weight_point : (n : ℕ) (qs : List (Claim E)) (α : E) (x : List E) → All (Extends F n) qs → length x ≡ n → weight F o qs α x ≡ weight_at F qs α (orient o x)
+    pub weight_point : (n : ℕ) (qs : List (Claim E)) (α : E) (x : List E) → AllByRecursion (Extends F n) qs → length x ≡ n → weight F o qs α x ≡ weight_at F qs α (orient o x)
     unfolding view
     weight_point n qs α x a e =
         ap (λ l. at F l α) (Q.maps_agree (λ q. value F q.corners (orient o x)) (λ q. q.point (orient o x)) qs
@@ -105,21 +105,21 @@ module _ {E : Type 0} (F : Ops E) (K : IsField F) where
     same f g (a ∷ l) = ap suc (same f g l)
 
     -- batching: the claims from the power 0, and a round
-    pub batch_sound : (n : ℕ) (g : List E) (qs : List (Claim E)) (α : E) → length g ≡ 2 ^ n → All (Extends F n) qs
-        → batched F qs α ≡ cube F n (λ x. weight F o qs α x ⊗ view F o g x) → All (TrueOf F g) qs ⊎ Root F (claims_error F g qs) α
+    pub batch_sound : (n : ℕ) (g : List E) (qs : List (Claim E)) (α : E) → length g ≡ 2 ^ n → AllByRecursion (Extends F n) qs
+        → batched F qs α ≡ cube F n (λ x. weight F o qs α x ⊗ view F o g x) → AllByRecursion (TrueOf F g) qs ⊎ Root F (claims_error F g qs) α
     batch_sound n g qs α h a e =
         elim (equal_or_root F K (map (λ q. q.claimed) qs) (map (worth F g) qs) α (same (λ q. q.claimed) (worth F g) qs) (e ∙ weight_cube n g h α qs a)) [
           | inl s ↦ inl (Q.agree_maps (λ q. q.claimed) (worth F g) qs s)
           | inr r ↦ inr r
         ]
 
-    pub batch_complete : (n : ℕ) (g : List E) (qs : List (Claim E)) (α : E) → length g ≡ 2 ^ n → All (Extends F n) qs
-        → All (TrueOf F g) qs → batched F qs α ≡ cube F n (λ x. weight F o qs α x ⊗ view F o g x)
+    pub batch_complete : (n : ℕ) (g : List E) (qs : List (Claim E)) (α : E) → length g ≡ 2 ^ n → AllByRecursion (Extends F n) qs
+        → AllByRecursion (TrueOf F g) qs → batched F qs α ≡ cube F n (λ x. weight F o qs α x ⊗ view F o g x)
     batch_complete n g qs α h a t = ap (λ l. at F l α) (Q.maps_agree (λ q. q.claimed) (worth F g) qs t) ∙ sym (weight_cube n g h α qs a)
 
-    pub round_sound : (n : ℕ) (g : List E) (W : List E → E) (c : E) (qs : List (Claim E)) (γ : E) → length g ≡ 2 ^ n → All (Extends F n) qs
+    pub round_sound : (n : ℕ) (g : List E) (W : List E → E) (c : E) (qs : List (Claim E)) (γ : E) → length g ≡ 2 ^ n → AllByRecursion (Extends F n) qs
         → joined F c qs γ ≡ cube F n (λ x. joint F o W qs γ x ⊗ view F o g x)
-        → ((c ≡ cube F n (λ x. W x ⊗ view F o g x)) × All (TrueOf F g) qs) ⊎ Root F (round_error F o n g W c qs) γ
+        → ((c ≡ cube F n (λ x. W x ⊗ view F o g x)) × AllByRecursion (TrueOf F g) qs) ⊎ Root F (round_error F o n g W c qs) γ
     round_sound n g W c qs γ h a e =
         let p : List E = c ∷ map (λ q. q.claimed) qs in
         let t : List E = cube F n (λ x. W x ⊗ view F o g x) ∷ map (worth F g) qs in
@@ -128,12 +128,12 @@ module _ {E : Type 0} (F : Ops E) (K : IsField F) where
           | inr r ↦ inr r
         ]
 
-    pub round_complete : (n : ℕ) (g : List E) (W : List E → E) (c : E) (qs : List (Claim E)) (γ : E) → length g ≡ 2 ^ n → All (Extends F n) qs
-        → c ≡ cube F n (λ x. W x ⊗ view F o g x) → All (TrueOf F g) qs → joined F c qs γ ≡ cube F n (λ x. joint F o W qs γ x ⊗ view F o g x)
+    pub round_complete : (n : ℕ) (g : List E) (W : List E → E) (c : E) (qs : List (Claim E)) (γ : E) → length g ≡ 2 ^ n → AllByRecursion (Extends F n) qs
+        → c ≡ cube F n (λ x. W x ⊗ view F o g x) → AllByRecursion (TrueOf F g) qs → joined F c qs γ ≡ cube F n (λ x. joint F o W qs γ x ⊗ view F o g x)
     round_complete n g W c qs γ h a e t = ap₂ (λ v l. at F (v ∷ l) γ) e (Q.maps_agree (λ q. q.claimed) (worth F g) qs t) ∙ sym (joint_cube n g h W qs γ a)
 
     -- what is fresh in a round has the law
-    pub fresh_lawful : (n : ℕ) (rs : List E) (qs : List (Query E)) (samples : List (Claim E)) → All (λ q. length q.point ≡ n) qs → All (Extends F n) samples → All (Extends F n) (fresh F o rs qs samples)
+    pub fresh_lawful : (n : ℕ) (rs : List E) (qs : List (Query E)) (samples : List (Claim E)) → AllByRecursion (λ q. length q.point ≡ n) qs → AllByRecursion (Extends F n) samples → AllByRecursion (Extends F n) (fresh F o rs qs samples)
     fresh_lawful n rs qs samples points a =
         All-append (Extends F n) samples (map (queried F o rs) qs) a
         (All-map (Extends F n) (queried F o rs) qs

@@ -3,7 +3,7 @@ use Rattle.std.specs.Prelude.{◌≡◌, ℕ, suc, ◌^◌, ◌⊎◌, List, ◌
 use mathlib.Core.List.{Memᴰ}
 use Rattle.ring.specs.Ring.{Ops}
 use Rattle.multilinear.specs.declared.order.VariableOrder.{VariableOrder}
-use Rattle.std.specs.List.{AllByRecursion as All}
+use Rattle.std.specs.List.{AllByRecursion}
 use Rattle.argument.specs.Roots.{Any, Root}
 use Rattle.multilinear.specs.Tables.{cube, view, position, folded, row}
 use Rattle.ring.specs.Polynomials.{minus}
@@ -61,13 +61,13 @@ module _ {E : Type 0} (F : Ops E) where
   -- two different tables with equal values at every position opened; and a position of the phase, so one not opened, where they differ
   pub record Alike (g h : List E) (qs : List (Query E)) (positions : List (List E)) : Type 0 where
     pub different : ¬ (g ≡ h)
-    pub opened : All (λ q. position F g q.point ≡ position F h q.point) qs
+    pub opened : AllByRecursion (λ q. position F g q.point ≡ position F h q.point) qs
     pub elsewhere : Any (λ p. ¬ (position F g p ≡ position F h p)) positions
 
   -- the positions tell tables of m variables apart: two that have equal values at all of them are one
   abbrev pub Apart : ℕ → List (List E) → Type 0
   Apart m positions =
-      (g h : List E) → length g ≡ 2 ^ m → length h ≡ 2 ^ m → All (λ p. position F g p ≡ position F h p) positions → g ≡ h
+      (g h : List E) → length g ≡ 2 ^ m → length h ≡ 2 ^ m → AllByRecursion (λ p. position F g p ≡ position F h p) positions → g ≡ h
 
   -- the error polynomial of the claims, for α: each value minus what the table comes to
   abbrev pub claims_error : List E → List (Claim E) → List E
@@ -81,8 +81,8 @@ module _ {E : Type 0} (F : Ops E) where
     -- the queries of a phase that binds k variables and leaves m: each point is one of a table of m variables, each row is the
     -- table's own there, or lists collide; and the positions tell tables of m variables apart
     pub record Opens (p : Phase E) (k m : ℕ) (qs : List (Query E)) : Type 0 where
-      pub points : All (λ q. length q.point ≡ m) qs
-      pub rows : All (λ q. (q.opened ≡ row F o k p.table q.point) ⊎ Clash digest p) qs
+      pub points : AllByRecursion (λ q. length q.point ≡ m) qs
+      pub rows : AllByRecursion (λ q. (q.opened ≡ row F o k p.table q.point) ⊎ Clash digest p) qs
       pub apart : Apart m p.positions
 
     -- what is asked of the phases, one by one: p is opened after the draws rs, ps are those after it
@@ -92,7 +92,7 @@ module _ {E : Type 0} (F : Ops E) where
         record {
           opens : Opens p (length rs) (before ss (left tail)) qs;
           sized : length (ps 0).table ≡ 2 ^ before ss (left tail);
-          sampled : All (Extends F (before ss (left tail))) samples;
+          sampled : AllByRecursion (Extends F (before ss (left tail))) samples;
           rest : Behind (ps 0) (draws ss) (onward ps) tail;
         }
 

@@ -2,7 +2,7 @@
 use Rattle.std.specs.Prelude.{◌≡◌, ℕ, ◌^◌, ◌⊎◌, List, ◌++◌, length}
 use Rattle.ring.specs.Ring.{Ops}
 use Rattle.multilinear.specs.declared.order.VariableOrder.{VariableOrder}
-use Rattle.std.specs.List.{AllByRecursion as All}
+use Rattle.std.specs.List.{AllByRecursion}
 use Rattle.multilinear.specs.Tables.{cube, value, view, position}
 use Rattle.multilinear.specs.Laws.{Multilinear}
 use Rattle.argument.specs.Roots.{Root}
@@ -25,18 +25,18 @@ TrueMessagesLead {E} F =
 
 -- claims by the powers of α, from the power 0: if their sum is true, each is true, or α is a root of their error; and the converse
 pub record BatchTellsClaims {E : Type 0} (F : Ops E) : Type 0 where
-  pub binds : (o : VariableOrder) (n : ℕ) (g : List E) (qs : List (Claim E)) (α : E) → length g ≡ 2 ^ n → All (Extends F n) qs
-      → batched F qs α ≡ cube F n (λ x. F.mul (weight F o qs α x) (view F o g x)) → All (TrueOf F g) qs ⊎ Root F (claims_error F g qs) α
-  pub leads : (o : VariableOrder) (n : ℕ) (g : List E) (qs : List (Claim E)) (α : E) → length g ≡ 2 ^ n → All (Extends F n) qs
-      → All (TrueOf F g) qs → batched F qs α ≡ cube F n (λ x. F.mul (weight F o qs α x) (view F o g x))
+  pub binds : (o : VariableOrder) (n : ℕ) (g : List E) (qs : List (Claim E)) (α : E) → length g ≡ 2 ^ n → AllByRecursion (Extends F n) qs
+      → batched F qs α ≡ cube F n (λ x. F.mul (weight F o qs α x) (view F o g x)) → AllByRecursion (TrueOf F g) qs ⊎ Root F (claims_error F g qs) α
+  pub leads : (o : VariableOrder) (n : ℕ) (g : List E) (qs : List (Claim E)) (α : E) → length g ≡ 2 ^ n → AllByRecursion (Extends F n) qs
+      → AllByRecursion (TrueOf F g) qs → batched F qs α ≡ cube F n (λ x. F.mul (weight F o qs α x) (view F o g x))
 
 -- a round: the carried claim with the power 0, the fresh ones from the power 1
 pub record RoundTellsClaims {E : Type 0} (F : Ops E) : Type 0 where
-  pub binds : (o : VariableOrder) (n : ℕ) (g : List E) (W : List E → E) (c : E) (qs : List (Claim E)) (γ : E) → length g ≡ 2 ^ n → All (Extends F n) qs
+  pub binds : (o : VariableOrder) (n : ℕ) (g : List E) (W : List E → E) (c : E) (qs : List (Claim E)) (γ : E) → length g ≡ 2 ^ n → AllByRecursion (Extends F n) qs
       → joined F c qs γ ≡ cube F n (λ x. F.mul (joint F o W qs γ x) (view F o g x))
-      → ((c ≡ cube F n (λ x. F.mul (W x) (view F o g x))) × All (TrueOf F g) qs) ⊎ Root F (round_error F o n g W c qs) γ
-  pub leads : (o : VariableOrder) (n : ℕ) (g : List E) (W : List E → E) (c : E) (qs : List (Claim E)) (γ : E) → length g ≡ 2 ^ n → All (Extends F n) qs
-      → c ≡ cube F n (λ x. F.mul (W x) (view F o g x)) → All (TrueOf F g) qs → joined F c qs γ ≡ cube F n (λ x. F.mul (joint F o W qs γ x) (view F o g x))
+      → ((c ≡ cube F n (λ x. F.mul (W x) (view F o g x))) × AllByRecursion (TrueOf F g) qs) ⊎ Root F (round_error F o n g W c qs) γ
+  pub leads : (o : VariableOrder) (n : ℕ) (g : List E) (W : List E → E) (c : E) (qs : List (Claim E)) (γ : E) → length g ≡ 2 ^ n → AllByRecursion (Extends F n) qs
+      → c ≡ cube F n (λ x. F.mul (W x) (view F o g x)) → AllByRecursion (TrueOf F g) qs → joined F c qs γ ≡ cube F n (λ x. F.mul (joint F o W qs γ x) (view F o g x))
 
 -- the two kinds of claims that a run makes by itself have the law, and say of a table what their names say: its value at a point, its
 -- value at a position

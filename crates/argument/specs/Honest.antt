@@ -2,7 +2,7 @@
 use Rattle.std.specs.Prelude.{◌≡◌, ℕ, List, ◌++◌, length}
 use Rattle.ring.specs.Ring.{Ops}
 use Rattle.multilinear.specs.declared.order.VariableOrder.{VariableOrder}
-use Rattle.std.specs.List.{AllByRecursion as All}
+use Rattle.std.specs.List.{AllByRecursion}
 use Rattle.multilinear.specs.Tables.{view, folded, row}
 use Rattle.argument.specs.Sumcheck.{draws, before, TrueSteps}
 use Rattle.argument.specs.Claims.{Claim, Extends, TrueOf, joint}
@@ -26,14 +26,14 @@ module _ {E : Type 0} (F : Ops E) (o : VariableOrder) where
   Honest g rs gs W (end f qs ss) =
       record {
         folds : f ≡ folded F o (before ss 0) g rs;
-        rows : All (OwnRow (length rs) (before ss 0) g) qs;
+        rows : AllByRecursion (OwnRow (length rs) (before ss 0) g) qs;
         messages : TrueSteps F ss 0 W (view F o f);
       }
   Honest g rs gs W (round qs samples γ ss tail) =
       record {
         folds : gs 0 ≡ folded F o (before ss (left tail)) g rs;
-        sampled : All (TrueClaim (before ss (left tail)) (gs 0)) samples;
-        rows : All (OwnRow (length rs) (before ss (left tail)) g) qs;
+        sampled : AllByRecursion (TrueClaim (before ss (left tail)) (gs 0)) samples;
+        rows : AllByRecursion (OwnRow (length rs) (before ss (left tail)) g) qs;
         messages : TrueSteps F ss (left tail) (joint F o W (fresh F o rs qs samples) γ) (view F o (gs 0));
         rest : Honest (gs 0) (draws ss) (onward gs) (λ x. joint F o W (fresh F o rs qs samples) γ (draws ss ++ x)) tail;
       }

@@ -2,7 +2,7 @@
 use Rattle.std.specs.Prelude.{◌≡◌, ℕ, List, ◌++◌, map}
 use Rattle.ring.specs.Ring.{Ops}
 use Rattle.multilinear.specs.declared.order.VariableOrder.{VariableOrder}
-use Rattle.std.specs.List.{AllByRecursion as All}
+use Rattle.std.specs.List.{AllByRecursion}
 use Rattle.multilinear.specs.Tables.{orient, value, view}
 use Rattle.argument.specs.Sumcheck.{Step, draws, before, after}
 use Rattle.argument.specs.Claims.{Claim, TrueOf, at_position, batched, weight_at, joined}
@@ -64,7 +64,7 @@ module _ {E : Type 0} (F : Ops E) where
 
     -- the rows of the last phase agree with the final polynomial
     abbrev pub LastRowsAgree : List E → Tail E → Type 0
-    LastRowsAgree rs (end f qs ss) = All (TrueOf F f) (map (queried rs) qs)
+    LastRowsAgree rs (end f qs ss) = AllByRecursion (TrueOf F f) (map (queried rs) qs)
     LastRowsAgree rs (round qs samples γ ss tail) = LastRowsAgree (draws ss) tail
 
     -- what is checked of the numbers: the last rows, and that the claim carried to the end is the weight of all claims at all draws

@@ -7,7 +7,7 @@ use Rattle.field.specs.Residues.{reduce, ops_257}
 use Rattle.multilinear.specs.declared.order.VariableOrder.TheVariants.{Prefix, Suffix}
 use Rattle.multilinear.specs.Tables.{eq, value, view, folded, row}
 use Rattle.multilinear.specs.Univariate.{expand}
-use Rattle.std.specs.List.{AllByRecursion as All}
+use Rattle.std.specs.List.{AllByRecursion}
 use Rattle.argument.specs.Sumcheck.{Step, draws, message, true0, true2, TrueSteps}
 use Rattle.argument.specs.Claims.{Claim, at_point, weight}
 use Rattle.argument.specs.Reading.{Tail, end, Accepted}
@@ -71,7 +71,7 @@ pub record Readings : Type 0 where
   pub suffix_accepted : Accepted ops_257 Suffix eight_claim (el 1) suffix_steps suffix_tail
   pub prefix_refused : Accepted ops_257 Prefix eight_claim (el 1) suffix_steps suffix_tail → ⊥
   -- that run meets what the two halves of the theorem ask
-  pub suffix_claims : All (TrueClaim ops_257 Suffix 3 eight) eight_claim
+  pub suffix_claims : AllByRecursion (TrueClaim ops_257 Suffix 3 eight) eight_claim
   pub suffix_messages : TrueSteps ops_257 suffix_steps 1 (weight ops_257 Suffix eight_claim (el 1)) (view ops_257 Suffix eight)
   pub suffix_honest : Honest ops_257 Suffix eight (draws suffix_steps) (λ i. eight) (λ x. weight ops_257 Suffix eight_claim (el 1) (draws suffix_steps ++ x)) suffix_tail
   pub suffix_behind : Behind ops_257 (λ l. l) Suffix (eight_phase 0) (draws suffix_steps) (onward eight_phase) suffix_tail

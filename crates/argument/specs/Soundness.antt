@@ -2,7 +2,7 @@
 use Rattle.std.specs.Prelude.{◌≡◌, ℕ, ◌^◌, ◌≤◌, ◌⊎◌, List, map, length}
 use Rattle.ring.specs.Ring.{Ops}
 use Rattle.multilinear.specs.declared.order.VariableOrder.{VariableOrder}
-use Rattle.std.specs.List.{AllByRecursion as All}
+use Rattle.std.specs.List.{AllByRecursion}
 use Rattle.argument.specs.Sumcheck.{Step, draws, before}
 use Rattle.argument.specs.Claims.{Claim, Extends, TrueOf}
 use Rattle.argument.specs.Reading.{Query, Tail, left, Accepted}
@@ -15,10 +15,10 @@ use Rattle.argument.specs.Accidents.{Phase, onward, Alike, Apart, Behind, AnyAcc
 abbrev pub AcceptedMeansTrue : {E : Type 0} → Ops E → Type 0
 AcceptedMeansTrue {E} F =
     (digest : List ℕ → List ℕ) (o : VariableOrder) (ps : ℕ → Phase E) (claims : List (Claim E)) (α : E) (ss : List (Step E)) (tail : Tail E)
-    → length (ps 0).table ≡ 2 ^ before ss (left tail) → All (Extends F (before ss (left tail))) claims
+    → length (ps 0).table ≡ 2 ^ before ss (left tail) → AllByRecursion (Extends F (before ss (left tail))) claims
     → Behind F digest o (ps 0) (draws ss) (onward ps) tail
     → Accepted F o claims α ss tail
-    → All (TrueOf F (ps 0).table) claims ⊎ AnyAccident F digest o ps claims α ss tail
+    → AllByRecursion (TrueOf F (ps 0).table) claims ⊎ AnyAccident F digest o ps claims α ss tail
 
 -- where every position of a phase is opened, two different tables are never alike
 abbrev pub AllOpenedNeverAlike : {E : Type 0} → Ops E → Type 0

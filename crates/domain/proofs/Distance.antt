@@ -1,7 +1,7 @@
 -- Positions that distinct base elements stand for keep tables of an extension apart. Assumes nothing.
 use Rattle.std.proofs.Common.{◌≡◌, ℕ, zero, suc, ◌^◌, ◌<◌, ◌≤◌, List, [], ◌∷◌, map, length, get_or, drop, sym, refl, ap, subst, ap₂, suc-ne-zero, arith, pow_mono}
 use lib.ListN.{length-map}
-use Rattle.std.specs.List.{ContainsAt as Has, AllByRecursion as All}
+use Rattle.std.specs.List.{ContainsAt as Has, AllByRecursion}
 use Rattle.std.proofs.ByRecursion.{All-weaker, All-map, all-has}
 use Rattle.ring.specs.Ring.{Ops}
 use Rattle.ring.specs.Polynomials.{Distinct}
@@ -24,7 +24,7 @@ unfolding below
 length_below zero = refl
 length_below (suc n) = ap suc (length_below n)
 
-all_below : (n : ℕ) → All (λ i. i < n) (below n)
+all_below : (n : ℕ) → AllByRecursion (λ i. i < n) (below n)
 unfolding below
 all_below zero = tt
 all_below (suc n) = (omega arith, All-weaker (λ i. i < n) (λ i. i < suc n) (λ i h. omega arith) (below n) (all_below n))
@@ -35,11 +35,11 @@ distinct_below zero = tt
 distinct_below (suc n) = (All-weaker (λ i. i < n) (λ i. n ≡ i → ⊥) (λ i h e. omega arith) (below n) (all_below n), distinct_below n)
 
 module _ {B : Type 0} (f : ℕ → B) (N : ℕ) (apart : (i j : ℕ) → i < N → j < N → f i ≡ f j → i ≡ j) where
-  away : (i : ℕ) → i < N → (l : List ℕ) → All (λ j. j < N) l → All (λ j. i ≡ j → ⊥) l → All (λ y. f i ≡ y → ⊥) (map f l)
+  away : (i : ℕ) → i < N → (l : List ℕ) → AllByRecursion (λ j. j < N) l → AllByRecursion (λ j. i ≡ j → ⊥) l → AllByRecursion (λ y. f i ≡ y → ⊥) (map f l)
   away i h [] low ne = tt
   away i h (j ∷ l) low ne = (λ e. ne.0 (apart i j h low.0 e), away i h l low.1 ne.1)
 
-  distinct_map : (l : List ℕ) → All (λ j. j < N) l → Distinct l → Distinct (map f l)
+  distinct_map : (l : List ℕ) → AllByRecursion (λ j. j < N) l → Distinct l → Distinct (map f l)
   distinct_map [] low d = tt
   distinct_map (i ∷ l) low d = (away i low.0 l low.1 d.0, distinct_map l low.1 d.1)
 
@@ -66,12 +66,12 @@ module _ {A B : Type 0} (F : Ops A) (G : Ops B) (K : IsField G) (x : Extension A
 
   module _ (element : ℕ → A) (log : ℕ) (apart : (i j : ℕ) → i < 2 ^ log → j < 2 ^ log → element i ≡ element j → i ≡ j) where
     pub agree_rarely : (m : ℕ) (g h : List B) → length g ≡ 2 ^ m → length h ≡ 2 ^ m → (g ≡ h → ⊥)
-        → (indices : List ℕ) → Distinct indices → All (λ i. (i < 2 ^ log) × AgreeAt m g h (element i)) indices → length indices < 2 ^ m
+        → (indices : List ℕ) → Distinct indices → AllByRecursion (λ i. (i < 2 ^ log) × AgreeAt m g h (element i)) indices → length indices < 2 ^ m
     agree_rarely m g h lg lh ne is distinct agree =
         let f : ℕ → B = λ i. x.embed (element i) in
         let f_apart : (i j : ℕ) → i < 2 ^ log → j < 2 ^ log → f i ≡ f j → i ≡ j = λ i j hi hj e. apart i j hi hj (H.one_to_one (element i) (element j) e) in
-        let low : All (λ i. i < 2 ^ log) is = All-weaker (λ i. (i < 2 ^ log) × AgreeAt m g h (element i)) (λ i. i < 2 ^ log) (λ i a. a.0) is agree in
-        let at : All (λ i. position G g (expand G (f i) m) ≡ position G h (expand G (f i) m)) is =
+        let low : AllByRecursion (λ i. i < 2 ^ log) is = All-weaker (λ i. (i < 2 ^ log) × AgreeAt m g h (element i)) (λ i. i < 2 ^ log) (λ i a. a.0) is agree in
+        let at : AllByRecursion (λ i. position G g (expand G (f i) m) ≡ position G h (expand G (f i) m)) is =
         All-weaker (λ i. (i < 2 ^ log) × AgreeAt m g h (element i)) (λ i. position G g (expand G (f i) m) ≡ position G h (expand G (f i) m)) (λ i a. lifted m g h (element i) a.1) is agree in
         let bound : length (map f is) < 2 ^ m =
         few G K m g h lg lh ne (map f is) (distinct_map f (2 ^ log) f_apart is low distinct) (All-map (λ v. position G g (expand G v m) ≡ position G h (expand G v m)) f is at) in
@@ -83,7 +83,7 @@ settled_from G K embed d distance log m fits few' g h lg lh agree =
     pick (same? K.decide g h) (λ e. e)
     (λ ne.
     let wide : 2 ^ m ≤ 2 ^ log = pow_mono few' in
-    let all : All (λ i. (i < 2 ^ log) × Agree G embed d log m g h i) (below (2 ^ m)) =
+    let all : AllByRecursion (λ i. (i < 2 ^ log) × Agree G embed d log m g h i) (below (2 ^ m)) =
     All-weaker (λ i. i < 2 ^ m) (λ i. (i < 2 ^ log) × Agree G embed d log m g h i) (λ i l. let k : i < 2 ^ log = omega arith in (k, agree i k)) (below (2 ^ m)) (all_below (2 ^ m)) in
     let bound : length (below (2 ^ m)) < 2 ^ m = distance log m fits few' g h lg lh ne (below (2 ^ m)) (distinct_below (2 ^ m)) all in
     absurd (omega (arith, length_below (2 ^ m))))
@@ -91,6 +91,6 @@ settled_from G K embed d distance log m fits few' g h lg lh agree =
 -- any list that has the points of all positions of a log size tells tables of m variables apart
 pub apart_by_points : {A B : Type 0} (G : Ops B) (embed : A → B) (d : Domain A) → Settled G embed d → (log m : ℕ) → log ≤ d.capacity → m ≤ log
     → (points : List (List B)) → ((i : ℕ) → i < 2 ^ log → Has points (map embed (d.point log m i)))
-    → (g h : List B) → length g ≡ 2 ^ m → length h ≡ 2 ^ m → All (λ p. position G g p ≡ position G h p) points → g ≡ h
+    → (g h : List B) → length g ≡ 2 ^ m → length h ≡ 2 ^ m → AllByRecursion (λ p. position G g p ≡ position G h p) points → g ≡ h
 apart_by_points G embed d settled log m fits few' points has g h lg lh agree =
     settled log m fits few' g h lg lh (λ i l. all-has (λ p. position G g p ≡ position G h p) points (map embed (d.point log m i)) agree (has i l))

@@ -1,7 +1,7 @@
 -- What a domain is: one point of m base elements for each log size, each m up to it and each index below the size; and the law that
 -- its positions keep different tables apart.
 use Rattle.std.specs.Prelude.{◌≡◌, ℕ, ◌^◌, ◌<◌, ◌≤◌, Bool, cond, ◌&&◌, List, map, length, Ok, Err, Result, ◌≢◌, nat_le, nat_lt, slice_index_or}
-use Rattle.std.specs.List.{AllByRecursion as All}
+use Rattle.std.specs.List.{AllByRecursion}
 use Rattle.ring.specs.Ring.{Ops}
 use Rattle.ring.specs.Polynomials.{Distinct}
 use Rattle.multilinear.specs.Tables.{position}
@@ -53,7 +53,7 @@ module _ {A B : Type 0} (G : Ops B) (embed : A → B) (d : Domain A) where
   abbrev pub Distance : Type 0
   Distance =
       (log m : ℕ) → log ≤ d.capacity → m ≤ log → (g h : List B) → length g ≡ 2 ^ m → length h ≡ 2 ^ m → (g ≢ h)
-      → (indices : List ℕ) → Distinct indices → All (λ i. (i < 2 ^ log) × Agree log m g h i) indices → length indices < 2 ^ m
+      → (indices : List ℕ) → Distinct indices → AllByRecursion (λ i. (i < 2 ^ log) × Agree log m g h i) indices → length indices < 2 ^ m
 
   -- two tables of m variables that agree at all positions of a log size are one
   abbrev pub Settled : Type 0

@@ -1,5 +1,5 @@
 ghost use Rattle.std.specs.Prelude.{◌≡◌, ℕ, ◌^◌, ◌<◌, ◌≤◌, T, length, MatchOption, MatchResult, ◌≢◌, slice_index_or};
-ghost use Rattle.std.specs.List.{AllByRecursion as All};
+ghost use Rattle.std.specs.List.{AllByRecursion};
 ghost use Rattle.ring.specs.Polynomials.{Distinct};
 ghost use Rattle.domain.specs.declared.query.Limit.TheVariants.{BadList};
 ghost use Rattle.domain.specs.Listed.{Listable, listed};
@@ -121,8 +121,8 @@ fn are_distinct<F: Field>(points: &[F]) -> bool
 
 // Whether x is no element of the list.
 fn is_absent<F: Field>(x: F, rest: &[F]) -> bool
-    ensures yes { T result → All (λ y. x ≢ y) rest.now }
-    ensures no { All (λ y. x ≢ y) rest.now → T result }
+    ensures yes { T result → AllByRecursion (λ y. x ≢ y) rest.now }
+    ensures no { AllByRecursion (λ y. x ≢ y) rest.now → T result }
 {
     for y in rest {
         if x.equal(*y) {

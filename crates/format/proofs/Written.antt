@@ -1,6 +1,6 @@
 -- Reading what is written.
 use Rattle.std.proofs.Common.{◌≡◌, ℕ, suc, ◌+◌, ◌-◌, ◌*◌, ◌%◌, ◌^◌, ◌<◌, ◌≤◌, Bool, true, false, cond, ◌&&◌, eqb, ltb, List, [], ◌∷◌, ◌++◌, length, take, drop, codes, decimal, sym, refl, ap, ◌∙◌, append_assoc, arith, length-append}
-use Rattle.std.specs.List.{AllByRecursion as All}
+use Rattle.std.specs.List.{AllByRecursion}
 use Rattle.std.proofs.lemmas.Fmt.{decimal_by_steps}
 use Rattle.std.proofs.lemmas.Bool.{eq-eqb, le-leb, lt-ltb, and_from, cond-true}
 use Rattle.parameters.specs.Schedule.{Strategy, constant, second, per_round}
@@ -111,7 +111,7 @@ cleaned text clean i (x ∷ xs) more end = clean i x (all_text text (suc i) xs m
 each_back : {X : Type 0} (item : ℕ → List ℕ → Read X) (text : ℕ → X → List ℕ → List ℕ) (Fine : X → Type 0) (bound : ℕ)
     → ((i : ℕ) (x : X) (more : List ℕ) → i < bound → Fine x → Clean more → item i (text i x more) ≡ found x more)
     → ((i : ℕ) (x : X) (more : List ℕ) → Clean (text i x more))
-    → (i : ℕ) (xs : List X) (more : List ℕ) → i + length xs ≤ bound → All Fine xs → Clean more → each item i (length xs) (all_text text i xs more) ≡ found xs more
+    → (i : ℕ) (xs : List X) (more : List ℕ) → i + length xs ≤ bound → AllByRecursion Fine xs → Clean more → each item i (length xs) (all_text text i xs more) ≡ found xs more
 each_back item text Fine bound back clean i [] more few fine end = each_zero item i more
 each_back item text Fine bound back clean i (x ∷ xs) more few fine end =
     each_suc item i (length xs) (text i x (all_text text (suc i) xs more))
@@ -119,13 +119,13 @@ each_back item text Fine bound back clean i (x ∷ xs) more few fine end =
     (back i x (all_text text (suc i) xs more) (omega arith) fine.0 (cleaned text clean (suc i) xs more end))
     ∙ then_found (λ ys e. found (x ∷ ys) e) (each_back item text Fine bound back clean (suc i) xs more (omega arith) fine.1 end)
 
-numbers_back : (xs more : List ℕ) → Held (length xs) → All Held xs → Clean more → numbers_listed (length xs) (spaced_all xs more) ≡ found xs more
+numbers_back : (xs more : List ℕ) → Held (length xs) → AllByRecursion Held xs → Clean more → numbers_listed (length xs) (spaced_all xs more) ≡ found xs more
 unfolding numbers_listed
 numbers_back xs more h a e =
     each_back (λ _. next_number) (λ _ x. spaced x) Held (2 ^ 64) (λ i x rest _ held clean. next_back x rest held clean) (λ i x rest. refl) 0 xs more
     (omega arith) a e
 
-list_back : (xs more : List ℕ) → Held (length xs) → All Held xs → Clean more → list (listed xs more) ≡ found xs more
+list_back : (xs more : List ℕ) → Held (length xs) → AllByRecursion Held xs → Clean more → list (listed xs more) ≡ found xs more
 unfolding list
 list_back xs more h a e =
     then_found (λ count rest. numbers_listed count rest)
@@ -138,7 +138,7 @@ byte_back b bs h e =
     then_found (λ n rest. cond (ltb n 256) (found n rest) (stuck expected.Byte rest)) (next_back b bs (omega arith) e)
     ∙ cond-true (ltb b 256) _ _ (lt-ltb _ _ h)
 
-byte_list_back : (xs more : List ℕ) → Held (length xs) → All (λ b. b < 256) xs → Clean more → byte_list (listed xs more) ≡ found xs more
+byte_list_back : (xs more : List ℕ) → Held (length xs) → AllByRecursion (λ b. b < 256) xs → Clean more → byte_list (listed xs more) ≡ found xs more
 unfolding byte_list bytes_listed
 byte_list_back xs more h a e =
     then_found (λ count rest. bytes_listed count rest)
@@ -159,7 +159,7 @@ index_back i bs h e =
     then_found (λ n rest. cond (eqb n i) (found tt rest) (stuck (expected.Index i) rest)) (next_back i bs h e)
     ∙ cond-true (eqb i i) _ _ (eq-eqb i i refl)
 
-strategy_back : (s : Strategy) (bs : List ℕ) → Held (length (factors_of s)) → All Held (factors_of s) → Clean bs → strategy (strategy_text s bs) ≡ found s bs
+strategy_back : (s : Strategy) (bs : List ℕ) → Held (length (factors_of s)) → AllByRecursion Held (factors_of s) → Clean bs → strategy (strategy_text s bs) ≡ found s bs
 unfolding constant_behind second_behind listed_behind
 strategy_back (constant f) bs h a e =
     is_constant (codes " constant" ++ spaced f bs) (spaced f bs) refl refl ∙ then_found (λ g rest. found (constant g) rest) (next_back f bs a.0 e)
@@ -182,10 +182,10 @@ line_back k part text x more h =
 number_line_back : (k : Key) (n : ℕ) (more : List ℕ) → Held n → line k next_number (number_text k n more) ≡ found n more
 number_line_back k n more h = line_back k next_number (spaced n) n more (next_back n (10 ∷ more) h refl)
 
-list_line_back : (k : Key) (xs more : List ℕ) → Held (length xs) → All Held xs → line k list (line_of_text k (listed xs) more) ≡ found xs more
+list_line_back : (k : Key) (xs more : List ℕ) → Held (length xs) → AllByRecursion Held xs → line k list (line_of_text k (listed xs) more) ≡ found xs more
 list_line_back k xs more h a = line_back k list (listed xs) xs more (list_back xs (10 ∷ more) h a refl)
 
-round_back : (i : ℕ) (r : RoundConfig) (more : List ℕ) → i < 2 ^ 64 → All Held (fields r) → round i (round_text i r more) ≡ found r more
+round_back : (i : ℕ) (r : RoundConfig) (more : List ℕ) → i < 2 ^ 64 → AllByRecursion Held (fields r) → round i (round_text i r more) ≡ found r more
 unfolding round
 round_back i r more h a =
     then_found _ (key_back key.Round (spaced i (spaced_all (fields r) (10 ∷ more))))
@@ -193,12 +193,12 @@ round_back i r more h a =
     ∙ then_found _ (numbers_back (fields r) (10 ∷ more) (omega arith) a refl)
     ∙ then_found _ (end_back more)
 
-rounds_back : (rs : List RoundConfig) (more : List ℕ) → Held (length rs) → All (λ r. All Held (fields r)) rs → Clean more
+rounds_back : (rs : List RoundConfig) (more : List ℕ) → Held (length rs) → AllByRecursion (λ r. AllByRecursion Held (fields r)) rs → Clean more
     → rounds (number_text key.Rounds (length rs) (all_text round_text 0 rs more)) ≡ found rs more
 unfolding rounds rounds_listed
 rounds_back rs more h a e =
     then_found (λ count rest. rounds_listed count rest) (number_line_back key.Rounds (length rs) (all_text round_text 0 rs more) h)
-    ∙ each_back round round_text (λ r. All Held (fields r)) (2 ^ 64) (λ i r rest low held _. round_back i r rest low held) (λ i r rest. refl) 0 rs more
+    ∙ each_back round round_text (λ r. AllByRecursion Held (fields r)) (2 ^ 64) (λ i r rest low held _. round_back i r rest low held) (λ i r rest. refl) 0 rs more
     (omega arith) a e
 
 terminal_back : (q d : ℕ) (more : List ℕ) → Held q → Held d

@@ -1,6 +1,6 @@
 -- How the lines of a configuration are written, and that reading gives the numbers back.
 use Rattle.std.specs.Prelude.{◌≡◌, ℕ, suc, ◌^◌, ◌<◌, Bool, cond, List, [], ◌∷◌, ◌++◌, length, codes, decimal}
-use Rattle.std.specs.List.{AllByRecursion as All}
+use Rattle.std.specs.List.{AllByRecursion}
 use Rattle.parameters.specs.Schedule.{Strategy, constant, second, per_round}
 use Rattle.configuration.specs.Numbers.{Numbers}
 use Rattle.configuration.specs.Limits.{factors_of}
@@ -80,14 +80,14 @@ Held n = n < 2 ^ 64
 
 -- Numbers that the code can hold, as it holds those of every configuration: each below 2^64, those of the domain's name bytes.
 pub record Sized (N : Numbers) : Type 0 where
-  pub numbers : All Held (N.variables ∷ N.capacity ∷ N.first_rate ∷ N.soundness ∷ N.level ∷ N.budget ∷ N.commitment_samples ∷ N.first_difficulty
+  pub numbers : AllByRecursion Held (N.variables ∷ N.capacity ∷ N.first_rate ∷ N.soundness ∷ N.level ∷ N.budget ∷ N.commitment_samples ∷ N.first_difficulty
       ∷ N.terminal.num_queries ∷ N.terminal.pow_bits ∷ N.final_rounds ∷ N.final_difficulty ∷ [])
-  pub lengths : All Held (length N.id ∷ length N.listed_rates ∷ length N.stored ∷ length N.rounds ∷ length (factors_of N.strategy) ∷ [])
-  pub bytes : All (λ b. b < 256) N.id
-  pub rates : All Held N.listed_rates
-  pub factors : All Held (factors_of N.strategy)
-  pub schedule : All Held N.stored
-  pub rounds : All (λ r. All Held (fields r)) N.rounds
+  pub lengths : AllByRecursion Held (length N.id ∷ length N.listed_rates ∷ length N.stored ∷ length N.rounds ∷ length (factors_of N.strategy) ∷ [])
+  pub bytes : AllByRecursion (λ b. b < 256) N.id
+  pub rates : AllByRecursion Held N.listed_rates
+  pub factors : AllByRecursion Held (factors_of N.strategy)
+  pub schedule : AllByRecursion Held N.stored
+  pub rounds : AllByRecursion (λ r. AllByRecursion Held (fields r)) N.rounds
 
 -- Reading what is written gives the numbers back, and leaves what follows.
 abbrev pub ReadsBack : Type 0

@@ -5,7 +5,7 @@ use Rattle.ring.specs.Ring.{Ops}
 use Rattle.ring.specs.Polynomials.{value as at, Root, Zero, minus}
 use Rattle.ring.proofs.Roots.{few_roots, value_minus}
 use Rattle.field.specs.Laws.{IsField}
-use Rattle.std.specs.List.{AllByRecursion as All}
+use Rattle.std.specs.List.{AllByRecursion}
 use Rattle.multilinear.specs.Tables.{corners, product, tabulate, dot, position}
 use Rattle.multilinear.specs.Univariate.{pow, expand}
 use Rattle.multilinear.specs.Laws.{DifferentTablesAgreeRarely}
@@ -67,7 +67,7 @@ module _ {E : Type 0} (F : Ops E) (K : IsField F) where
 
   -- where two tables agree, their difference has a root
   roots : (m : ℕ) (g h : List E) → length g ≡ 2 ^ m → length h ≡ 2 ^ m → (vs : List E)
-      → All (λ v. position F g (expand F v m) ≡ position F h (expand F v m)) vs → All (Root F (minus F g h)) vs
+      → AllByRecursion (λ v. position F g (expand F v m) ≡ position F h (expand F v m)) vs → AllByRecursion (Root F (minus F g h)) vs
   roots m g h lg lh [] z = tt
   roots m g h lg lh (v ∷ vs) z =
       let same : at F g v ≡ at F h v = sym (position_at m v g lg) ∙ z.0 ∙ position_at m v h lh in

@@ -2,7 +2,7 @@
 use Rattle.std.specs.Prelude.{◌≡◌, ℕ, ◌^◌, ◌<◌, List, [], ◌∷◌, ◌++◌, length, slice_index_or}
 use Rattle.ring.specs.Ring.{Ops}
 use Rattle.multilinear.specs.declared.order.VariableOrder.{VariableOrder}
-use Rattle.std.specs.List.{AllByRecursion as All}
+use Rattle.std.specs.List.{AllByRecursion}
 use Rattle.multilinear.specs.Tables.{orient, digits, corners, select, tabulate, value, view, position, folded, row}
 use Rattle.ring.specs.Polynomials.{Distinct, value as at}
 use Rattle.multilinear.specs.Univariate.{pow, expand}
@@ -44,4 +44,4 @@ pub record SelectIsPower {E : Type 0} (F : Ops E) : Type 0 where
 abbrev pub DifferentTablesAgreeRarely : {E : Type 0} → Ops E → Type 0
 DifferentTablesAgreeRarely {E} F =
     (m : ℕ) (g h : List E) → length g ≡ 2 ^ m → length h ≡ 2 ^ m → ¬ (g ≡ h)
-    → (vs : List E) → Distinct vs → All (λ v. position F g (expand F v m) ≡ position F h (expand F v m)) vs → length vs < 2 ^ m
+    → (vs : List E) → Distinct vs → AllByRecursion (λ v. position F g (expand F v m) ≡ position F h (expand F v m)) vs → length vs < 2 ^ m

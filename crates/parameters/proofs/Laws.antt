@@ -1,6 +1,6 @@
 -- The law of a schedule, for every strategy.
 use Rattle.std.proofs.Common.{◌≡◌, ℕ, zero, suc, ◌+◌, ◌-◌, ◌*◌, ◌<◌, ◌≤◌, ◌||◌, eqb, ltb, leb, List, [], ◌∷◌, map, length, take, IfOk, Ok, Err, vec_items, sum, Result, Vec, sym, refl, ◌∙◌, subst, ⊎_elim, mul-le-mul_left, zero-mul, mul-one, add-one, arith}
-use Rattle.std.specs.List.{range_with_len, AllByRecursion as All}
+use Rattle.std.specs.List.{range_with_len, AllByRecursion}
 use Rattle.std.proofs.lemmas.List.FromFn.{length-map-range_with_len, get_or-map-range_with_len, take-map-range_with_len, sum_by-map-range_with_len_more}
 use Rattle.std.proofs.ByRecursion.{All-from_get_or}
 use Rattle.std.proofs.lemmas.List.Sums.{sum_by-cons}
@@ -34,7 +34,7 @@ folds_enough t g left pos =
 folds_needed : (t g left i : ℕ) → i < folds t g left → t < left - i * g
 folds_needed t g left i h = leb-false _ _ (first_misses left (λ j. leb (left - j * g) t) i h)
 
-parts_folding : (t g left : ℕ) → 0 < g → All (λ k. 1 ≤ k) (map (part g left) (range_with_len 0 (folds t g left)))
+parts_folding : (t g left : ℕ) → 0 < g → AllByRecursion (λ k. 1 ≤ k) (map (part g left) (range_with_len 0 (folds t g left)))
 parts_folding t g left pos =
     All-from_get_or (λ k. 1 ≤ k) (map (part g left) (range_with_len 0 (folds t g left))) 0
     (λ i h. let h' : i < folds t g left = omega (arith, length-map-range_with_len (part g left) 0 (folds t g left)) in
@@ -103,7 +103,7 @@ cons_lawful t left k ls pos le h law =
       needed = λ j a b. cons_needed t left k j ls le h law a b;
     }
 
-walk_lawful : (t n left : ℕ) (all ks : List ℕ) → All (λ k. 1 ≤ k) all → walk t n left all ≡ planned ks → Lawful t left ks
+walk_lawful : (t n left : ℕ) (all ks : List ℕ) → AllByRecursion (λ k. 1 ≤ k) all → walk t n left all ≡ planned ks → Lawful t left ks
 walk_lawful t n left [] ks ok p = never _ ks p
 walk_lawful t n left (k ∷ all) ks ok p =
     ⊎_elim (λ l. never _ ks (sym (cond-true (ltb left k) _ _ l) ∙ p))
@@ -119,7 +119,7 @@ walk_lawful t n left (k ∷ all) ks ok p =
     (cases_Bool (leb (left - k) t)))
     (cases_Bool (ltb left k))
 
-faultless : (n : ℕ) (all : List ℕ) (v : Verdict) (ks : List ℕ) → unless_faulty n all v ≡ planned ks → All (λ k. 1 ≤ k) all × (v ≡ planned ks)
+faultless : (n : ℕ) (all : List ℕ) (v : Verdict) (ks : List ℕ) → unless_faulty n all v ≡ planned ks → AllByRecursion (λ k. 1 ≤ k) all × (v ≡ planned ks)
 faultless n [] v ks p = (tt, p)
 faultless n (k ∷ all) v ks p =
     ⊎_elim (λ z. never _ ks (sym (cond-true (eqb k 0) _ _ z) ∙ p))

@@ -1,6 +1,6 @@
 -- How the variables of a table are folded, phase by phase, until so few are left that the rest is sent in the clear.
 use Rattle.std.specs.Prelude.{◌≡◌, ℕ, zero, suc, ◌-◌, ◌*◌, ◌<◌, ◌≤◌, min, Bool, cond, ◌||◌, leb, List, [], ◌∷◌, map, length, take, sum, ◌==◌, nat_le, nat_lt}
-use Rattle.std.specs.List.{range_with_len, AllByRecursion as All}
+use Rattle.std.specs.List.{range_with_len, AllByRecursion}
 use Rattle.parameters.specs.Refusals.{Refusal, too_large, zero_factor, insufficient, empty_schedule}
 
 -- A strategy: one factor for every phase; one for the first phase and one for the others; or a factor listed for each phase.
@@ -67,7 +67,7 @@ schedule threshold (per_round ks) n = listed threshold ks n
 -- no more than the threshold; and before the last factor, unless it is the first, more than the threshold was left.
 pub record Lawful (threshold n : ℕ) (ks : List ℕ) : Type 0 where
   pub some : 0 < length ks
-  pub folding : All (λ k. 1 ≤ k) ks
+  pub folding : AllByRecursion (λ k. 1 ≤ k) ks
   pub within : sum ks ≤ n
   pub enough : n - sum ks ≤ threshold
   pub needed : (j : ℕ) → 0 < j → j < length ks → threshold < n - sum (take j ks)

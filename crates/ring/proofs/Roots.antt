@@ -1,7 +1,7 @@
 -- How many roots a polynomial has, and polynomials that are alike at a point. Assumes nothing.
 use Rattle.std.proofs.Common.{◌≡◌, suc, ◌⊎◌, List, [], ◌∷◌, length, sym, refl, ap, ◌∙◌, ap₂, inl, inr, ⊎_elim, suc-ne-zero, arith}
 use native.Mathlib.Nat.{suc_inj}
-use Rattle.std.specs.List.{AllByRecursion as All}
+use Rattle.std.specs.List.{AllByRecursion}
 use Rattle.ring.specs.Ring.{Ops, IsRing}
 use Rattle.ring.specs.Polynomials.{value, Root, Zero, negated, minus, FewRoots, EqualOrRoot, SameOrRoot}
 use Rattle.ring.proofs.Basic.{eq_of_sub, sub_self}
@@ -47,7 +47,7 @@ module _ {A : Type 0} {o : Ops A} (L : IsRing o) where
         (by L (O ⊖ I) v2 (v0 ⊕ v1) (divided a x p) ∷ by L (O ⊖ I) v1 O at_a ∷ by L I v2 O at_x ∷ []) tt in
         ⊎_elim (λ e. absurd (apart (sym (eq_of_sub L x a e)))) (λ e. e) (no_divisors (o.sub x a) q product)
 
-    roots_of_quotient : (a : A) (p xs : List A) → Root o p a → All (λ x. a ≡ x → ⊥) xs → All (Root o p) xs → All (Root o (quotient a p)) xs
+    roots_of_quotient : (a : A) (p xs : List A) → Root o p a → AllByRecursion (λ x. a ≡ x → ⊥) xs → AllByRecursion (Root o p) xs → AllByRecursion (Root o (quotient a p)) xs
     roots_of_quotient a p [] root apart roots = tt
     roots_of_quotient a p (x ∷ xs) root apart roots =
         (root_of_quotient a x p root apart.0 roots.0, roots_of_quotient a p xs root apart.1 roots.1)

@@ -1,12 +1,12 @@
 -- Polynomials in one variable, by their coefficients, the constant one first. Assumes nothing.
 use Rattle.std.specs.Prelude.{◌≡◌, ◌<◌, ◌⊎◌, List, [], ◌∷◌, length, ◌≢◌}
-use Rattle.std.specs.List.{AllByRecursion as All}
+use Rattle.std.specs.List.{AllByRecursion}
 use Rattle.ring.specs.Ring.{Ops}
 
 -- no two entries of the list are equal
 abbrev pub Distinct : {A : Type 0} → List A → Type 0
 Distinct [] = Unit {0}
-Distinct (x ∷ xs) = All (λ y. x ≢ y) xs × Distinct xs
+Distinct (x ∷ xs) = AllByRecursion (λ y. x ≢ y) xs × Distinct xs
 
 module _ {A : Type 0} (o : Ops A) where
   -- the value at a point, by Horner's rule
@@ -19,7 +19,7 @@ module _ {A : Type 0} (o : Ops A) where
 
   -- every coefficient is zero
   abbrev pub Zero : List A → Type 0
-  Zero p = All (λ c. c ≡ o.zero) p
+  Zero p = AllByRecursion (λ c. c ≡ o.zero) p
 
   abbrev pub negated : List A → List A
   negated [] = []
@@ -33,7 +33,7 @@ module _ {A : Type 0} (o : Ops A) where
 
   -- d + 1 coefficients, not all zero, have at most d roots
   abbrev pub FewRoots : Type 0
-  FewRoots = (p xs : List A) → (Zero p → ⊥) → Distinct xs → All (Root p) xs → length xs < length p
+  FewRoots = (p xs : List A) → (Zero p → ⊥) → Distinct xs → AllByRecursion (Root p) xs → length xs < length p
 
   -- polynomials that are alike at a point are alike everywhere, or the point is a root of their difference, which is not zero
   abbrev pub EqualOrRoot : Type 0

@@ -1,7 +1,7 @@
 -- The pattern is balanced, and a separator can be cut in one way.
 use Rattle.std.proofs.Common.{◌≡◌, ℕ, zero, suc, ◌+◌, ◌-◌, ◌*◌, ◌/◌, ◌%◌, ◌^◌, ◌<◌, Bool, true, false, cond, eqb, List, [], ◌∷◌, ◌++◌, map, length, take, drop, sym, refl, ap, ◌∙◌, subst, mod-eq_of_lt, arith}
 use lib.Pow.{mod-pow-add}
-use Rattle.std.specs.List.{flat_map, AllByRecursion as All}
+use Rattle.std.specs.List.{flat_map, AllByRecursion}
 use Rattle.std.proofs.lemmas.List.{take_at, drop_at}
 use Rattle.transcript.specs.declared.interaction.Hierarchy.{Hierarchy}
 use Rattle.transcript.specs.declared.interaction.Hierarchy.TheVariants.{Begin, End, Atomic}
@@ -182,7 +182,7 @@ apart : (x : Step) (y : List ℕ) → step_bytes x ≡ instance_bytes y → ⊥
 unfolding step_bytes instance_bytes
 apart x y e = let z : ◌≡◌ {A = ℕ} 0 1 = (same_cons _ _ _ _ e).0 in omega arith
 
-same_rest : (xs ys : List Step) (is js : List (List ℕ)) → All Encodable xs → All Encodable ys → map step_bytes xs ++ map instance_bytes is ≡ map step_bytes ys ++ map instance_bytes js → (xs ≡ ys) × (is ≡ js)
+same_rest : (xs ys : List Step) (is js : List (List ℕ)) → AllByRecursion Encodable xs → AllByRecursion Encodable ys → map step_bytes xs ++ map instance_bytes is ≡ map step_bytes ys ++ map instance_bytes js → (xs ≡ ys) × (is ≡ js)
 same_rest [] [] is js hx hy e = (refl, same_labels is js e)
   where
     same_labels : (is js : List (List ℕ)) → map instance_bytes is ≡ map instance_bytes js → is ≡ js

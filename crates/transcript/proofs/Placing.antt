@@ -1,6 +1,6 @@
 -- The positions that come of drawing: how many, and that each is one.
 use Rattle.std.proofs.Common.{◌≡◌, ℕ, zero, suc, ◌+◌, ◌-◌, ◌*◌, ◌%◌, ◌^◌, ◌<◌, ◌≤◌, Bool, true, false, eqb, List, [], ◌∷◌, ◌++◌, length, sum_by, sym, refl, ap, ◌∙◌, subst, arith, pow_pos, pow-add}
-use Rattle.std.specs.List.{AllByRecursion as All}
+use Rattle.std.specs.List.{AllByRecursion}
 use Rattle.std.proofs.lemmas.Nat.{mul-add-lt, mod_below}
 use Rattle.std.proofs.lemmas.List.{length-append}
 use Rattle.std.proofs.lemmas.List.Sums.{sum_by-cons}
@@ -12,11 +12,11 @@ use Rattle.transcript.specs.Positions.{index_drawn, indices_drawn, strata_drawn,
 use Rattle.transcript.proofs.Summing.{depths_sum}
 use Rattle.transcript.proofs.Describing.{counted_length}
 
-all_append : (P : ℕ → Type 0) (xs ys : List ℕ) → All P xs → All P ys → All P (xs ++ ys)
+all_append : (P : ℕ → Type 0) (xs ys : List ℕ) → AllByRecursion P xs → AllByRecursion P ys → AllByRecursion P (xs ++ ys)
 all_append P [] ys f g = g
 all_append P (x ∷ xs) ys f g = (f.0, all_append P xs ys f.1 g)
 
-counted_within : (bound k n : ℕ) → k + n ≤ bound → All (λ p. p < bound) (counted k n)
+counted_within : (bound k n : ℕ) → k + n ≤ bound → AllByRecursion (λ p. p < bound) (counted k n)
 counted_within bound k zero h = tt
 counted_within bound k (suc n) h = (omega arith, counted_within bound (suc k) n (omega arith))
 
@@ -25,7 +25,7 @@ unfolding each
 each_count m s f [] = refl
 each_count m s f (j ∷ js) = ap suc (each_count m (read m s (f j)).list f js)
 
-each_holds : (m : Rules) (s : List ℕ) (f : ℕ → Play ⊥ ℕ) (P Q : ℕ → Type 0) (js : List ℕ) → ((u : List ℕ) (j : ℕ) → Q j → P (read m u (f j)).value) → All Q js → All P (read m s (each f js)).value
+each_holds : (m : Rules) (s : List ℕ) (f : ℕ → Play ⊥ ℕ) (P Q : ℕ → Type 0) (js : List ℕ) → ((u : List ℕ) (j : ℕ) → Q j → P (read m u (f j)).value) → AllByRecursion Q js → AllByRecursion P (read m s (each f js)).value
 unfolding each
 each_holds m s f P Q [] h q = tt
 each_holds m s f P Q (j ∷ js) h q = (h s j q.0, each_holds m (read m s (f j)).list f P Q js h q.1)
@@ -53,7 +53,7 @@ strata_count m s w (t ∷ ts) =
     length-append (read m s (indices_drawn (w - t) (2 ^ (w - t)) (2 ^ t))).value (read m (read m s (indices_drawn (w - t) (2 ^ (w - t)) (2 ^ t))).list (strata_drawn w ts)).value
     ∙ omega (arith, each_count m s (index_drawn (w - t) (2 ^ (w - t))) (counted 0 (2 ^ t)), counted_length 0 (2 ^ t), strata_count m front.list w ts, sum_by-cons (λ t. 2 ^ t) t ts)
 
-strata_within : (m : Rules) (s : List ℕ) (w : ℕ) (ts : List ℕ) → Falling w ts → All (λ p. p < 2 ^ w) (read m s (strata_drawn w ts)).value
+strata_within : (m : Rules) (s : List ℕ) (w : ℕ) (ts : List ℕ) → Falling w ts → AllByRecursion (λ p. p < 2 ^ w) (read m s (strata_drawn w ts)).value
 unfolding strata_drawn
 strata_within m s w [] f = tt
 strata_within m s w (t ∷ ts) f =
@@ -61,11 +61,11 @@ strata_within m s w (t ∷ ts) f =
     (each_holds m s (index_drawn (w - t) (2 ^ (w - t))) (λ p. p < 2 ^ w) (λ j. j < 2 ^ t) (counted 0 (2 ^ t)) (λ u j q. part_below m u w t j f.0 q) (counted_within (2 ^ t) 0 (2 ^ t) (omega arith)))
     (strata_within m (read m s (indices_drawn (w - t) (2 ^ (w - t)) (2 ^ t))).list w ts (looser t w ts (omega (arith, f.0)) f.1))
 
-everywhere : (js : List ℕ) → All (λ j. Unit {0}) js
+everywhere : (js : List ℕ) → AllByRecursion (λ j. Unit {0}) js
 everywhere [] = tt
 everywhere (j ∷ js) = (tt, everywhere js)
 
-some_placed : (m : Rules) (s : List ℕ) (stratified : Bool) (w d : ℕ) → d < 2 ^ w → (length (read m s (some_drawn stratified w d)).value ≡ d) × All (λ p. p < 2 ^ w) (read m s (some_drawn stratified w d)).value
+some_placed : (m : Rules) (s : List ℕ) (stratified : Bool) (w d : ℕ) → d < 2 ^ w → (length (read m s (some_drawn stratified w d)).value ≡ d) × AllByRecursion (λ p. p < 2 ^ w) (read m s (some_drawn stratified w d)).value
 some_placed m s true w d h = (strata_count m s w (depths d) ∙ (depths_sum d).whole, strata_within m s w (depths d) ((depths_sum d).falling w h))
 some_placed m s false w d h = (
   each_count m s (index_drawn w 0) (counted 0 d) ∙ counted_length 0 d,

@@ -1,6 +1,6 @@
 -- The positions that a phase opens, as a play.
 use Rattle.std.specs.Prelude.{◌≡◌, ℕ, zero, suc, ◌+◌, ◌-◌, ◌*◌, ◌^◌, ◌<◌, ◌≤◌, Bool, true, false, cond, List, [], ◌∷◌, ◌++◌, length, take, drop, Ok, ◌==◌}
-use Rattle.std.specs.List.{AllByRecursion as All}
+use Rattle.std.specs.List.{AllByRecursion}
 use Rattle.sponge.specs.Play.{Rules, Play, done, ◌>>=◌, each, counted, read}
 use Rattle.sponge.specs.Plays.{Plays}
 use Rattle.sponge.specs.Drawing.{draw_bits}
@@ -43,7 +43,7 @@ positions N i = positions_at N.strata (log_positions_of N N.stored i) (draws N N
 -- As many positions as rows are opened: those drawn, or all; and each is one.
 pub record Placed (w d : ℕ) (ps : List ℕ) : Type 0 where
   pub count : length ps ≡ cond (d == 0) (2 ^ w) d
-  pub within : All (λ p. p < 2 ^ w) ps
+  pub within : AllByRecursion (λ p. p < 2 ^ w) ps
 
 abbrev pub PositionsPlaced : Type 0
 PositionsPlaced =
