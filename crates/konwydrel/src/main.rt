@@ -12,6 +12,7 @@ use format::reading::read_configuration;
 use parameters::errors::ScheduleError;
 use parameters::folding::FoldingFactor;
 use std::alloc::{AllocError, Global};
+use std::process::ExitCode;
 use std::{env, fs};
 
 const USAGE: &str =
@@ -29,12 +30,18 @@ enum Request {
     Config,
 }
 
-fn main(rt: HostRuntime) -> anyhow::Result<()> {
-    let outcome = run(&rt);
-    if let Err(fault) = &outcome {
-        eprintln!(rt; "{fault}")?;
+fn main(rt: HostRuntime) -> ExitCode {
+    match run(&rt) {
+        Ok(()) => ExitCode::SUCCESS,
+        Err(fault) => failed(&rt, fault),
     }
-    outcome
+}
+
+// Writes the fault on standard error, a line.
+fn failed(rt: &HostRuntime, fault: anyhow::Error) -> ExitCode {
+    match eprintln!(rt; "{fault}") {
+        Ok(()) | Err(_) => ExitCode::FAILURE,
+    }
 }
 
 fn run(rt: &HostRuntime) -> anyhow::Result<()> {
