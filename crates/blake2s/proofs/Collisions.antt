@@ -57,9 +57,9 @@ walk xs ys (suc n) hx hy e =
     (same_call (inner xs n) (inner ys n))
 
 -- a padded block has a message's bytes, and zeros after them
-getD_padded : (bs : List ℕ) (j : ℕ) → j < 64 → get_or (padded bs) j 0 ≡ get_or bs j 0
+get_or_padded : (bs : List ℕ) (j : ℕ) → j < 64 → get_or (padded bs) j 0 ≡ get_or bs j 0
 unfolding padded
-getD_padded bs j lt =
+get_or_padded bs j lt =
     let z : List ℕ = replicate 64 0 in
     get_or-take 64 (bs ++ z) j 0 lt
     ∙ ⊎_elim (λ left. get_or_append_left bs z 0 j left)
@@ -71,7 +71,7 @@ getD_padded bs j lt =
 
 -- byte j of block n
 byte_of : (xs : List ℕ) (n j : ℕ) → j < 64 → get_or (padded (drop (64 * n) xs)) j 0 ≡ get_or xs (64 * n + j) 0
-byte_of xs n j lt = getD_padded (drop (64 * n) xs) j lt ∙ get_or-drop (64 * n) xs j 0
+byte_of xs n j lt = get_or_padded (drop (64 * n) xs) j lt ∙ get_or-drop (64 * n) xs j 0
 
 -- four bytes are read back from their word
 record Four (a b c d a' b' c' d' : ℕ) : Type 0 where

@@ -3,24 +3,24 @@ use Rattle.std.proofs.Common.{◌≡◌, ℕ, zero, suc, ◌+◌, List, [], ◌�
 use Rattle.std.specs.List.{range_with_len}
 use Rattle.std.proofs.lemmas.List.FromFn.{map-range_with_len_more}
 use Rattle.std.proofs.lemmas.List.{append_assoc, append-nil}
-use Rattle.blake2s_vectors.specs.Rule.{rule, bytesFrom}
+use Rattle.blake2s_vectors.specs.Rule.{rule, bytes_from}
 
 -- one byte more
-byte_more : (a n : ℕ) → bytesFrom a (suc n) ≡ bytesFrom a n ++ rule (a + n) ∷ []
-unfolding bytesFrom
+byte_more : (a n : ℕ) → bytes_from a (suc n) ≡ bytes_from a n ++ rule (a + n) ∷ []
+unfolding bytes_from
 byte_more a n =
     ap (λ (m : ℕ). map (λ (k : ℕ). rule (a + k)) (range_with_len 0 m)) (sym (add-one n))
     ∙ map-range_with_len_more (λ (k : ℕ). rule (a + k)) 0 n n (zero-add n)
 
 -- a piece more
-pub piece_more : (a n : ℕ) → bytesFrom 0 a ++ bytesFrom a n ≡ bytesFrom 0 (a + n)
-unfolding bytesFrom
-piece_more a zero = append-nil (bytesFrom 0 a) ∙ ap (bytesFrom 0) (sym (add-zero a))
+pub piece_more : (a n : ℕ) → bytes_from 0 a ++ bytes_from a n ≡ bytes_from 0 (a + n)
+unfolding bytes_from
+piece_more a zero = append-nil (bytes_from 0 a) ∙ ap (bytes_from 0) (sym (add-zero a))
 piece_more a (suc n) =
     let sum : suc (a + n) ≡ a + suc n = omega arith in
-    ap (λ (ys : List ℕ). bytesFrom 0 a ++ ys) (byte_more a n)
-    ∙ sym (append_assoc (bytesFrom 0 a) (bytesFrom a n) (rule (a + n) ∷ []))
+    ap (λ (ys : List ℕ). bytes_from 0 a ++ ys) (byte_more a n)
+    ∙ sym (append_assoc (bytes_from 0 a) (bytes_from a n) (rule (a + n) ∷ []))
     ∙ ap (λ (ys : List ℕ). ys ++ rule (a + n) ∷ []) (piece_more a n)
-    ∙ ap (λ (k : ℕ). bytesFrom 0 (a + n) ++ rule k ∷ []) (sym (zero-add (a + n)))
+    ∙ ap (λ (k : ℕ). bytes_from 0 (a + n) ++ rule k ∷ []) (sym (zero-add (a + n)))
     ∙ sym (byte_more 0 (a + n))
-    ∙ ap (bytesFrom 0) sum
+    ∙ ap (bytes_from 0) sum

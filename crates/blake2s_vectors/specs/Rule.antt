@@ -7,5 +7,5 @@ unfoldable pub rule : ℕ → ℕ
 rule i = (i % 251 * 7 + 3) % 251
 
 -- n bytes from byte a on
-unfoldable pub bytesFrom : (a n : ℕ) → List ℕ
-bytesFrom a n = map (λ k. rule (a + k)) (range_with_len 0 n)
+unfoldable pub bytes_from : (a n : ℕ) → List ℕ
+bytes_from a n = map (λ k. rule (a + k)) (range_with_len 0 n)

@@ -9,7 +9,7 @@
 ghost use Rattle.std.specs.Prelude.{◌≡◌, ℕ, ◌+◌, ◌^◌, ◌<◌, ◌≤◌, List, ◌++◌, length};
 ghost use Rattle.blake2s.specs.Absorbed.{Absorbed};
 ghost use Rattle.blake2s.specs.Blake2s.{hash};
-ghost use Rattle.blake2s_vectors.specs.Rule.{bytesFrom};
+ghost use Rattle.blake2s_vectors.specs.Rule.{bytes_from};
 
 use anyhow::anyhow;
 use blake2s::Hasher;
@@ -65,7 +65,7 @@ fn show(rt: &HostRuntime, digest: [u8; 32]) -> anyhow::Result<()> {
 // Fills the buffer with the bytes of the message from place `done` on.
 fn fill(buffer: &mut [u8], done: usize)
     requires { done + length buffer.old < 2 ^ 64 }
-    ensures { buffer.new ≡ bytesFrom done (length buffer.old) }
+    ensures { buffer.new ≡ bytes_from done (length buffer.old) }
 {
     for i in 0..buffer.len() {
         buffer[i] = (((done + i) % 251 * 7 + 3) % 251) as u8;
@@ -75,7 +75,7 @@ fn fill(buffer: &mut [u8], done: usize)
 // Takes in n bytes of the message from place `done` on.
 fn feed(hasher: &mut Hasher, done: usize, n: usize)
     requires { (done + n < 2 ^ 64) × (n ≤ 4096) }
-    ensures { (xs : List ℕ) → Absorbed hasher.old xs → Absorbed hasher.new (xs ++ bytesFrom done n) }
+    ensures { (xs : List ℕ) → Absorbed hasher.old xs → Absorbed hasher.new (xs ++ bytes_from done n) }
 {
     let mut store = [0; 4096];
     let room = &mut store[..];
@@ -86,7 +86,7 @@ fn feed(hasher: &mut Hasher, done: usize, n: usize)
 
 // The hash of a message of that length, taken in some bytes at a time, at most 4096.
 fn filled(long: usize, piece: usize) -> [u8; 32]
-    ensures { result ≡ hash (bytesFrom 0 long) }
+    ensures { result ≡ hash (bytes_from 0 long) }
 {
     let most = piece.clamp(1, 4096);
     let mut hasher = Hasher::new();

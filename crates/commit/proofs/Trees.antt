@@ -64,14 +64,14 @@ length_pairs (suc h) [] e = absurd (not-suc-le-zero {n = 0} (omega arith))
 length_pairs (suc h) (a ∷ []) e = absurd (not-suc-le-zero {n = 0} (omega arith))
 length_pairs (suc h) (a ∷ (b ∷ l)) e = ap suc (length_pairs h l (omega arith))
 
-getD_pairs : (j : ℕ) (l : List (List ℕ)) → j + j + 1 < length l → get_or (pairs l) j [] ≡ get_or l (j + j) [] ++ get_or l (j + j + 1) []
-getD_pairs j [] h = absurd (not-suc-le-zero h)
-getD_pairs j (a ∷ []) h = absurd (not-suc-le-zero {n = 0} (omega arith))
-getD_pairs zero (a ∷ (b ∷ l)) h = refl
-getD_pairs (suc j) (a ∷ (b ∷ l)) h =
+get_or_pairs : (j : ℕ) (l : List (List ℕ)) → j + j + 1 < length l → get_or (pairs l) j [] ≡ get_or l (j + j) [] ++ get_or l (j + j + 1) []
+get_or_pairs j [] h = absurd (not-suc-le-zero h)
+get_or_pairs j (a ∷ []) h = absurd (not-suc-le-zero {n = 0} (omega arith))
+get_or_pairs zero (a ∷ (b ∷ l)) h = refl
+get_or_pairs (suc j) (a ∷ (b ∷ l)) h =
     let first : suc (suc (j + j)) ≡ suc j + suc j = omega arith in
     let second : suc (suc (j + j + 1)) ≡ suc j + suc j + 1 = omega arith in
-    getD_pairs j l (omega arith)
+    get_or_pairs j l (omega arith)
     ∙ ap (λ k. get_or (a ∷ (b ∷ l)) k [] ++ get_or l (j + j + 1) []) first
     ∙ ap (λ k. get_or (a ∷ (b ∷ l)) (suc j + suc j) [] ++ get_or (a ∷ (b ∷ l)) k []) second
 
@@ -100,7 +100,7 @@ module _ (d : ℕ) (l : List (List ℕ)) (i : ℕ) (v : Level (suc d) l) (h : i 
   under = omega (arith, half d l v.high, v.high, pow-suc 2 d)
 
   two : get_or (pairs l) (i / 2) [] ≡ get_or l (i / 2 + i / 2) [] ++ get_or l (i / 2 + i / 2 + 1) []
-  two = getD_pairs (i / 2) l (omega (arith, v.high, pow-suc 2 d))
+  two = get_or_pairs (i / 2) l (omega (arith, v.high, pow-suc 2 d))
 
   -- a digest and its sibling, in order, are the pair above them
   own_pair : ordered i (get_or l i []) (get_or l (sibling i) []) ≡ get_or (pairs l) (i / 2) []
