@@ -3,5 +3,4 @@ pub mod Subgroup
 pub mod Listed
 pub mod Readings
 pub mod Powers
-pub mod TwoAdic257Lemmas
-pub mod TwoAdic65537Lemmas
+pub mod TwoAdicity

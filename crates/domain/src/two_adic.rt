@@ -1,16 +1,11 @@
 // Fields with elements of every order 2^k up to a largest k, and powers by squaring.
-ghost use Rattle.std.specs.Prelude.{◌≡◌, ℕ, ◌-◌, ◌^◌, ◌<◌, ◌≤◌, if◌then◌else◌, Ok, Err, nat_le, slice_index_or, refl};
-ghost use Rattle.std.proofs.Common.{sym, ap, ◌∙◌, lit<, lit≤};
+ghost use Rattle.std.specs.Prelude.{◌≡◌, ℕ, ◌-◌, ◌^◌, ◌<◌, ◌≤◌, if◌then◌else◌, Ok, Err, nat_le, slice_index_or};
 ghost use Rattle.multilinear.specs.Univariate.{pow, expand};
 ghost use Rattle.domain.specs.declared.query.Limit.TheVariants.{OutOfDomain};
 ghost use Rattle.domain.specs.Subgroup.{TwoAdic, generator};
 ghost use Rattle.domain.specs.Readings.{Generators};
-ghost use Rattle.field.specs.Residues.{ops_257, numbering_257, ops_65537, numbering_65537};
-ghost use Rattle.field.specs.ResiduesLemmas.{residue_path};
-ghost use Rattle.field.specs.Primes.{field_257, field_65537};
-ghost use Rattle.domain.specs.Powers.{pow_squared};
-ghost use Rattle.domain.specs.TwoAdic257Lemmas.{not_one};
-ghost use Rattle.domain.specs.TwoAdic65537Lemmas;
+ghost use Rattle.field.specs.Residues.{ops_257, ops_65537};
+ghost use Rattle.domain.specs.TwoAdicity.{order_257, order_65537};
 
 use crate::query::Limit;
 use field::residue::Residue;
@@ -29,13 +24,7 @@ pub trait TwoAdicField: BaseField {
 impl TwoAdicField for Residue<257> {
     ghost adicity = { 8 };
 
-    ghost order = { let three = numbering_257.residue 3 in
-        record {
-          positive = lit< tt;
-          small = lit≤ tt;
-          whole = pow_squared ops_257 field_257.ring 8 three ∙ residue_path refl;
-          half = λ e. not_one (ap (λ r. r.value) (sym (pow_squared ops_257 field_257.ring 7 three) ∙ e));
-        } };
+    ghost order = { order_257 };
 
     fn two_adicity() -> usize {
         8
@@ -45,13 +34,7 @@ impl TwoAdicField for Residue<257> {
 impl TwoAdicField for Residue<65537> {
     ghost adicity = { 16 };
 
-    ghost order = { let three = numbering_65537.residue 3 in
-        record {
-          positive = lit< tt;
-          small = lit≤ tt;
-          whole = pow_squared ops_65537 field_65537.ring 16 three ∙ residue_path refl;
-          half = λ e. TwoAdic65537Lemmas.not_one (ap (λ r. r.value) (sym (pow_squared ops_65537 field_65537.ring 15 three) ∙ e));
-        } };
+    ghost order = { order_65537 };
 
     fn two_adicity() -> usize {
         16

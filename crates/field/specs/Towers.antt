@@ -8,6 +8,7 @@ use Rattle.field.specs.Tower.{pair_ops}
 use Rattle.field.specs.Pairs.{pair_field}
 use Rattle.field.specs.Extensions.{itself_extends, doubled_extends}
 
+-- each of the four degrees is one of the degrees that there are
 pub sized_1 : Sized 1
 sized_1 = inl refl
 
