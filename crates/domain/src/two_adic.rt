@@ -4,7 +4,6 @@ ghost use Rattle.multilinear.specs.Univariate.{pow, expand};
 ghost use Rattle.domain.specs.declared.query.Limit.TheVariants.{OutOfDomain};
 ghost use Rattle.domain.specs.Subgroup.{TwoAdic, generator};
 ghost use Rattle.domain.specs.Readings.{Generators};
-ghost use Rattle.field.specs.Residues.{ops_257, ops_65537};
 ghost use Rattle.domain.specs.TwoAdicity.{order_257, order_65537};
 
 use crate::query::Limit;
