@@ -1,19 +1,9 @@
 -- A block filled up with zeros.
-use Rattle.std.proofs.Common.{◌≡◌, ℕ, ◌+◌, ◌-◌, ◌<◌, ◌≤◌, List, [], ◌∷◌, ◌++◌, length, take, set, replicate, sym, ap, ◌∙◌, arith}
-use Rattle.std.proofs.lemmas.List.{append_assoc, append-nil, take_more_set, replicate_more, length-take-le, length-append, length-replicate, replicate-append-replicate, take_at, take_all, take-append-le}
+use Rattle.std.proofs.Common.{◌≡◌, ℕ, ◌+◌, ◌-◌, ◌≤◌, List, ◌++◌, length, take, drop, replicate, sym, ap, ◌∙◌, arith, rules}
+use borrow.Rule.Slice.PartMut.{put_mid}
+use Rattle.std.proofs.lemmas.Slice.{overwrites, take-put_mid}
+use Rattle.std.proofs.lemmas.List.{append_assoc, append-nil, length-take-le, length-drop, length-append, length-replicate, replicate-append-replicate, take_at, take_all, take-append-le}
 use Rattle.blake2s.specs.Blake2s.{padded}
-
-pub zeros_more : (b now : List ℕ) (f i : ℕ)
-    → f ≤ i
-    → i < length now
-    → take i now ≡ take f b ++ replicate (i - f) 0
-    → take (i + 1) (set now i 0) ≡ take f b ++ replicate (i + 1 - f) 0
-zeros_more b now f i le lt e =
-    let n : i - f + 1 ≡ i + 1 - f = omega arith in
-    take_more_set now i 0 lt
-    ∙ ap (λ (zs : List ℕ). zs ++ 0 ∷ []) e
-    ∙ append_assoc (take f b) (replicate (i - f) 0) (0 ∷ [])
-    ∙ ap (λ (zs : List ℕ). take f b ++ zs) (replicate_more (i - f) 0 ∙ ap (λ (k : ℕ). replicate k 0) n)
 
 -- what padding gives, written out
 pub padded_is : (ys : List ℕ) (n : ℕ) → length ys ≡ n → n ≤ 64 → padded ys ≡ ys ++ replicate (64 - n) 0
@@ -28,17 +18,20 @@ padded_is ys n long le =
     ∙ ap (take 64) (sym (append_assoc ys (replicate (64 - n) 0) (replicate n 0)))
     ∙ take_at (ys ++ replicate (64 - n) 0) (replicate n 0) 64 front
 
-pub zeros_all : (b now : List ℕ) (f i : ℕ)
+-- a block whose end is overwritten by zeros
+pub filled_up : (b ys : List ℕ) (f : ℕ)
     → length b ≡ 64
-    → length now ≡ 64
     → f ≤ 64
-    → i ≡ 64
-    → take i now ≡ take f b ++ replicate (i - f) 0
-    → now ≡ padded (take f b)
-zeros_all b now f i long-b long-now le all e =
-    sym (take_all i now (omega arith))
-    ∙ e
-    ∙ ap (λ (k : ℕ). take f b ++ replicate (k - f) 0) all
+    → ys ≡ replicate (length (take (64 - f) (drop f b))) 0
+    → put_mid f (64 - f) b ys ≡ padded (take f b)
+filled_up b ys f long le e =
+    let rest : length (take (64 - f) (drop f b)) ≡ 64 - f = length-take-le (64 - f) (drop f b) (omega (arith, length-drop f b)) in
+    let zeros : ys ≡ replicate (64 - f) 0 = rw rest at e in
+    let n : length ys ≡ 64 - f = ap length zeros ∙ length-replicate (64 - f) 0 in
+    let whole : length (put_mid f (64 - f) b ys) ≤ 64 = search (rules, overwrites) in
+    sym (take_all 64 (put_mid f (64 - f) b ys) whole)
+    ∙ take-put_mid f (64 - f) b ys 64 (omega arith) (omega arith)
+    ∙ ap (λ (zs : List ℕ). take f b ++ zs) zeros
     ∙ sym (padded_is (take f b) f (length-take-le f b (omega arith)) le)
 
 -- a whole block is not changed

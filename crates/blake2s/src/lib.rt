@@ -5,7 +5,8 @@ mod compress;
 mod state;
 mod stream;
 
-ghost use Rattle.std.specs.Prelude.{◌≡◌, ◌++◌};
+ghost use Rattle.std.specs.Prelude.{◌≡◌, map};
+ghost use Rattle.std.specs.List.{concat};
 ghost use Rattle.blake2s.specs.Blake2s.{hash};
 ghost use Rattle.blake2s.specs.Laws.{CollisionsAreOfCompression, HashesAreThirtyTwoBytes};
 
@@ -16,42 +17,26 @@ pub use state::Hasher;
 pub fn hash(message: &[u8]) -> [u8; 32]
     ensures { result ≡ hash message.now }
 {
-    let mut hasher = Hasher::new();
-    hasher.update(message);
-    hasher.finish()
+    hash_pieces(&[message])
 }
 
-/// The hash of two pieces, one after the other.
-pub fn hash_two(left: &[u8], right: &[u8]) -> [u8; 32]
-    ensures { result ≡ hash (left.now ++ right.now) }
+/// The hash of the pieces, one after another.
+pub fn hash_pieces(pieces: &[&[u8]]) -> [u8; 32]
+    ensures { result ≡ hash (concat (map (λ piece. piece.now) pieces.now)) }
 {
     let mut hasher = Hasher::new();
-    hasher.update(left);
-    hasher.update(right);
+    for piece in pieces {
+        hasher.update(piece);
+    }
     hasher.finish()
 }
 
-/// The hash of three pieces, one after another.
-pub fn hash_three(first: &[u8], second: &[u8], third: &[u8]) -> [u8; 32]
-    ensures { result ≡ hash (first.now ++ (second.now ++ third.now)) }
-{
-    let mut hasher = Hasher::new();
-    hasher.update(first);
-    hasher.update(second);
-    hasher.update(third);
-    hasher.finish()
-}
-
-/// Stands for the law that a collision of the hash is a collision of its compression function.
-pub fn collisions_stand() -> u8
+/// A collision of the hash is a collision of its compression function.
+pub fn collisions_stand()
     ensures { CollisionsAreOfCompression }
-{
-    0
-}
+{}
 
-/// Stands for the law that every hash is 32 bytes.
-pub fn lengths_stand() -> u8
+/// Every hash is 32 bytes.
+pub fn lengths_stand()
     ensures { HashesAreThirtyTwoBytes }
-{
-    0
-}
+{}

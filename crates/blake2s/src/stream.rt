@@ -1,31 +1,20 @@
 //! Hashing piece by piece.
 
 ghost use Rattle.std.specs.Prelude.{◌≡◌, ℕ, ◌+◌, ◌-◌, ◌<◌, ◌≤◌, min, List, [], ◌++◌, length, take};
-ghost use Rattle.blake2s.specs.Blake2s.{words, padded, digest, hash};
+ghost use Rattle.blake2s.specs.Blake2s.{words, digest, hash};
 ghost use Rattle.blake2s.specs.Absorbed.{Cut, Ready, Absorbed, Pressed, Taken};
 
-use crate::compress::compress;
+use crate::compress::{IV, compress};
 use crate::state::Hasher;
 
-const START: [u32; 8] = [
-    0x6A09_E667 ^ 0x0101_0020,
-    0xBB67_AE85,
-    0x3C6E_F372,
-    0xA54F_F53A,
-    0x510E_527F,
-    0x9B05_688C,
-    0x1F83_D9AB,
-    0x5BE0_CD19,
-];
-
-// The sixteen words of the block that the bytes begin with.
-fn to_words(bs: &[u8]) -> [u32; 16]
-    requires { 64 ≤ length bs.now }
-    ensures { result ≡ words bs.now }
+// The sixteen words of a block.
+fn to_words(block: &[u8; 64]) -> [u32; 16]
+    ensures { result ≡ words block.now }
 {
+    let (groups, _) = block.as_chunks::<4>();
     let mut m = [0; 16];
-    for i in 0..16 {
-        m[i] = u32::from_le_bytes([bs[4 * i], bs[4 * i + 1], bs[4 * i + 2], bs[4 * i + 3]]);
+    for (i, bytes) in groups.iter().enumerate() {
+        m[i] = u32::from_le_bytes(*bytes);
     }
     m
 }
@@ -35,21 +24,10 @@ fn to_bytes(h: [u32; 8]) -> [u8; 32]
     ensures { result ≡ digest h }
 {
     let mut out = [0; 32];
-    for k in 0..32 {
-        out[k] = ((h[k / 4] >> (8 * (k % 4))) % 256) as u8;
+    for (i, word) in h.iter().enumerate() {
+        out[4 * i..4 * i + 4].copy_from_slice(&word.to_le_bytes());
     }
     out
-}
-
-// The first bytes of a block, and zeros after them.
-fn pad(mut block: [u8; 64], filled: usize) -> [u8; 64]
-    requires { filled ≤ 64 }
-    ensures { result ≡ padded (take filled block) }
-{
-    for i in filled..64 {
-        block[i] = 0;
-    }
-    block
 }
 
 impl Hasher {
@@ -57,21 +35,23 @@ impl Hasher {
     pub fn new() -> Hasher
         ensures { Absorbed result [] }
     {
+        let mut h = IV;
+        // A digest of 32 bytes, no key and no tree.
+        h[0] ^= 0x0101_0020;
         Hasher {
-            h: START,
+            h,
             block: [0; 64],
             filled: 0,
             count: 0,
         }
     }
 
-    // Compresses the block that the bytes begin with, which is not the last block.
-    fn press(&mut self, bytes: &[u8])
-        requires { 64 ≤ length bytes.now }
-        ensures { Pressed self.old self.new bytes.now }
+    // Compresses a block that is not the last one.
+    fn press(&mut self, block: &[u8; 64])
+        ensures { Pressed self.old self.new block.now }
     {
         let t = self.count.wrapping_add(64);
-        compress(&mut self.h, to_words(bytes), t, false);
+        compress(&mut self.h, to_words(block), t, false);
         self.count = t;
         self.filled = 0;
     }
@@ -109,11 +89,12 @@ impl Hasher {
         requires { (self.old.filled < 64) × (0 < length rest.now) }
         ensures { Taken self.old self.new rest.now result }
     {
-        if self.filled == 0 && rest.len() > 64 {
-            self.press(rest);
-            64
-        } else {
-            self.fill(rest)
+        match rest.split_first_chunk::<64>() {
+            Some((block, more)) if self.filled == 0 && !more.is_empty() => {
+                self.press(block);
+                64
+            }
+            _ => self.fill(rest),
         }
     }
 
@@ -121,10 +102,11 @@ impl Hasher {
     pub fn update(&mut self, piece: &[u8])
         ensures { (xs : List ℕ) → Absorbed self.old xs → Absorbed self.new (xs ++ piece.now) }
     {
-        let mut done = 0;
-        while done < piece.len() {
+        let mut rest = piece;
+        while !rest.is_empty() {
             self.make_room();
-            done += self.take_some(&piece[done..]);
+            let taken = self.take_some(rest);
+            rest = &rest[taken..];
         }
     }
 
@@ -132,9 +114,14 @@ impl Hasher {
     pub fn finish(self) -> [u8; 32]
         ensures { (xs : List ℕ) → Absorbed self xs → result ≡ hash xs }
     {
-        let block = pad(self.block, self.filled);
-        let t = self.count.wrapping_add(self.filled as u64);
-        let mut h = self.h;
+        let Hasher {
+            mut h,
+            mut block,
+            filled,
+            count,
+        } = self;
+        block[filled..].fill(0);
+        let t = count.wrapping_add(filled as u64);
         compress(&mut h, to_words(&block), t, true);
         to_bytes(h)
     }

@@ -11,55 +11,45 @@ ghost use Rattle.blake2s.specs.Absorbed.{Absorbed};
 ghost use Rattle.blake2s.specs.Blake2s.{hash};
 ghost use Rattle.blake2s_vectors.specs.Rule.{bytes_from};
 
-use anyhow::anyhow;
-use blake2s::Hasher;
+use anyhow::bail;
+use blake2s::{Hasher, hash, hash_pieces, working_words};
 use std::alloc::{AllocError, Global};
+use std::fmt;
 use std::io::{BufRead, BufReader};
 
-fn digit(b: u8) -> Option<u8> {
-    match b {
-        b'0'..=b'9' => Some(b - b'0'),
-        b'a'..=b'f' => Some(b - b'a' + 10),
-        b'A'..=b'F' => Some(b - b'A' + 10),
-        _ => None,
-    }
-}
+// A digest, printed in hexadecimal.
+#[derive(Debug, Drop)]
+struct Digest([u8; 32]);
 
-// The bytes that pairs of hexadecimal digits spell; other characters are passed over.
-fn unhex(heap: Global, text: &str) -> Result<Vec<u8>, AllocError> {
-    let mut bytes = Vec::new(heap);
-    let mut high = None;
-    for b in text.bytes() {
-        if let Some(d) = digit(b) {
-            match high {
-                None => high = Some(d),
-                Some(h) => {
-                    bytes.push((h << 4) | d)?;
-                    high = None;
-                }
-            }
+impl fmt::Display for Digest {
+    fn fmt<W: fmt::Write>(&self, f: &mut fmt::Formatter<W>) -> fmt::Result {
+        for b in &self.0 {
+            write!(f, "{b:02x}")?;
         }
+        Ok(())
     }
-    Ok(bytes)
 }
 
-// The word that hexadecimal digits spell.
+// The value of a hexadecimal digit.
+fn digit(c: char) -> Option<u8> {
+    u8::try_from(c.to_digit(16)?).ok()
+}
+
+// The bytes that pairs of hexadecimal digits spell. Other characters are passed over, and so is a digit that is left.
+fn bytes(heap: Global, text: &str) -> Result<Vec<u8>, AllocError> {
+    let digits: Vec<u8> = text.chars().filter_map(digit).collect(heap)?;
+    let (pairs, _) = digits.as_chunks::<2>();
+    pairs
+        .iter()
+        .map(|[high, low]| (high << 4) | low)
+        .collect(heap)
+}
+
+// The word that hexadecimal digits spell, modulo 2 ^ 32.
 fn word(text: &str) -> u32 {
-    let mut w = 0;
-    for b in text.bytes() {
-        if let Some(d) = digit(b) {
-            w = (w << 4) | u32::from(d);
-        }
-    }
-    w
-}
-
-fn show(rt: &HostRuntime, digest: [u8; 32]) -> anyhow::Result<()> {
-    for b in digest {
-        print!(rt; "{b:02x}")?;
-    }
-    println!(rt; "")?;
-    Ok(())
+    text.chars()
+        .filter_map(digit)
+        .fold(0, |word, digit| (word << 4) | u32::from(digit))
 }
 
 // Fills the buffer with the bytes of the message from place `done` on.
@@ -67,8 +57,8 @@ fn fill(buffer: &mut [u8], done: usize)
     requires { done + length buffer.old < 2 ^ 64 }
     ensures { buffer.new ≡ bytes_from done (length buffer.old) }
 {
-    for i in 0..buffer.len() {
-        buffer[i] = (((done + i) % 251 * 7 + 3) % 251) as u8;
+    for (i, byte) in buffer.iter_mut().enumerate() {
+        *byte = (((done + i) % 251 * 7 + 3) % 251) as u8;
     }
 }
 
@@ -91,6 +81,7 @@ fn filled(long: usize, piece: usize) -> [u8; 32]
     let most = piece.clamp(1, 4096);
     let mut hasher = Hasher::new();
     let mut done = 0;
+    // Kept: the message is made piece by piece and lies nowhere as a whole, so that no slice could be cut into chunks.
     while done < long {
         let n = most.min(long - done);
         feed(&mut hasher, done, n);
@@ -99,24 +90,23 @@ fn filled(long: usize, piece: usize) -> [u8; 32]
     hasher.finish()
 }
 
-// N words of a list, from place `from` on, and zeros past its end.
-fn part<const N: usize>(words: &[u32], from: usize) -> [u32; N] {
-    let mut out = [0; N];
-    for i in 0..N {
-        if from <= words.len() && i < words.len() - from {
-            out[i] = words[from + i];
-        }
+// The first N words of a list, with zeros past its end.
+fn padded<const N: usize>(words: &[u32]) -> [u32; N] {
+    let mut padded = [0; N];
+    for (place, word) in padded.iter_mut().zip(words) {
+        *place = *word;
     }
-    out
+    padded
 }
 
+// The working words of a compression before its first round and after each round.
 fn rounds(rt: &HostRuntime, words: &[u32]) -> anyhow::Result<()> {
-    let h = part::<8>(words, 0);
-    let m = part::<16>(words, 8);
-    let [t, last] = part::<2>(words, 24);
+    let h = padded::<8>(words);
+    let m = padded::<16>(words.get(8..).unwrap_or(&[]));
+    let [t, last] = padded::<2>(words.get(24..).unwrap_or(&[]));
     for n in 0..11 {
         print!(rt; "{n}:")?;
-        for w in blake2s::working_words(h, m, u64::from(t), last == 1, n) {
+        for w in working_words(h, m, u64::from(t), last == 1, n) {
             print!(rt; " {w:08X}")?;
         }
         println!(rt; "")?;
@@ -125,42 +115,39 @@ fn rounds(rt: &HostRuntime, words: &[u32]) -> anyhow::Result<()> {
 }
 
 fn trace(rt: &HostRuntime, text: &str) -> anyhow::Result<()> {
-    let mut words = Vec::new(rt.alloc());
-    for part in text.split(',') {
-        words.push(word(part))?;
-    }
+    let words: Vec<u32> = text.split(',').map(word).collect(rt.alloc())?;
     rounds(rt, &words)
 }
 
-fn joined(rt: &HostRuntime, text: &str) -> anyhow::Result<()> {
-    let mut parts = text.split(',');
-    let first = unhex(rt.alloc(), parts.next().unwrap_or(""))?;
-    let second = unhex(rt.alloc(), parts.next().unwrap_or(""))?;
-    let third = unhex(rt.alloc(), parts.next().unwrap_or(""))?;
-    show(rt, blake2s::hash_three(&first, &second, &third))
+// The hash of the first three pieces; those that are missing have no bytes.
+fn joined(heap: Global, text: &str) -> Result<Digest, AllocError> {
+    let mut pieces = text.split(',');
+    let first = bytes(heap, pieces.next().unwrap_or(""))?;
+    let second = bytes(heap, pieces.next().unwrap_or(""))?;
+    let third = bytes(heap, pieces.next().unwrap_or(""))?;
+    Ok(Digest(hash_pieces(&[&first, &second, &third])))
 }
 
 fn answer(rt: &HostRuntime, line: &str) -> anyhow::Result<()> {
     let mut parts = line.split(' ');
     let case = parts.next().unwrap_or("");
     let text = parts.next().unwrap_or("");
-    let more = parts.next().unwrap_or("");
     match case {
-        "hash" => {
-            let message = unhex(rt.alloc(), text)?;
-            show(rt, blake2s::hash(&message))
+        "hash" => println!(rt; "{}", Digest(hash(&bytes(rt.alloc(), text)?)))?,
+        "joined" => println!(rt; "{}", joined(rt.alloc(), text)?)?,
+        "filled" => {
+            let (long, piece) = (text.parse()?, parts.next().unwrap_or("").parse()?);
+            println!(rt; "{}", Digest(filled(long, piece)))?;
         }
-        "joined" => joined(rt, text),
-        "filled" => show(rt, filled(text.parse::<usize>()?, more.parse::<usize>()?)),
-        "rounds" => trace(rt, text),
-        _ => Err(anyhow!("a line that is no case")),
+        "rounds" => trace(rt, text)?,
+        _ => bail!("a line that is no case"),
     }
+    Ok(())
 }
 
 fn run(rt: &HostRuntime) -> anyhow::Result<()> {
     for line in BufReader::new(rt.alloc(), rt.stdin())?.lines(rt.alloc()) {
-        let line = line?;
-        answer(rt, line.as_str())?;
+        answer(rt, line?.as_str())?;
     }
     Ok(())
 }

@@ -1,6 +1,4 @@
 pub mod Lists
-pub mod Spreads
+pub mod Shelves
 pub mod Trees
-pub mod TreeLaws
-pub mod ShelfLaws
 pub mod Openings

@@ -2,3 +2,8 @@ pub mod Opening
 pub mod Tree
 pub mod Shelves
 pub mod Spread
+pub mod ListLemmas
+pub mod SpreadLaws
+pub mod TreeLemmas
+pub mod TreeLaws
+pub mod ShelfLaws

@@ -1,5 +1,5 @@
 -- Tables kept on shelves: a commitment is a shelf's number. Assumes nothing.
-use Rattle.std.specs.Prelude.{◌≡◌, ℕ, ◌+◌, ◌*◌, ◌<◌, Bool, ◌&&◌, List, [], ◌++◌, map, length, get_or, take, drop, ◌==◌, nat_lt, slice_index_or}
+use Rattle.std.specs.Prelude.{◌≡◌, ℕ, ◌+◌, ◌*◌, ◌<◌, Bool, false, ◌&&◌, Option, Some, None, List, [], ◌++◌, map, length, get_or, take, drop, ◌==◌, nat_lt, slice_index_or}
 use Rattle.std.specs.Str.{bytes_eq}
 use Rattle.field.specs.Numbers.{Numbering}
 use Rattle.field.specs.Bytes.{word_bytes}
@@ -19,9 +19,14 @@ module _ {X : Type 0} (n : Numbering X) where
   abbrev pub same_row : List X → List X → Bool
   same_row xs ys = bytes_eq (map n.number xs) (map n.number ys)
 
-  -- what is known of a row by its elements xs, compared with those of another from one place on to another place
-  abbrev pub Compared : (other : List X) → Bool → ℕ → (xs : List X) → Bool → ℕ → Type 0
-  Compared other known from xs known' to = (ys : List X) → (known && same_row (xs ++ ys) (drop from other)) ≡ (known' && same_row ys (drop to other))
+  -- a row is what is left of another, of which nothing is left once they differ
+  abbrev pub same_rest : Option (List X) → List X → Bool
+  same_rest None xs = false
+  same_rest (Some rest) xs = same_row xs rest
+
+  -- comparing the elements xs of a row leads from one rest of the other row to another
+  abbrev pub Compared : Option (List X) → (xs : List X) → Option (List X) → Type 0
+  Compared from xs to = (ys : List X) → same_rest from (xs ++ ys) ≡ same_rest to ys
 
 module _ {X : Type 0} (n : Numbering X) (values : List X) where
   -- the row at an index is that of a shelf that has this width

@@ -1,8 +1,10 @@
-ghost use Rattle.std.specs.Prelude.{◌≡◌, List, map};
+ghost use Rattle.std.specs.Prelude.{◌≡◌, map};
 ghost use Rattle.commit.specs.Spread.{spread, extended};
+ghost use Rattle.commit.specs.SpreadLaws.{some_degree, extended_laws};
 
 use crate::view::Coefficients;
-use crate::{OpeningScheme, Rows};
+use crate::{OpeningScheme, Places, Rows};
+use arrayvec::ArrayVec;
 use field::{ExtensionField, Field};
 use std::marker::PhantomData;
 
@@ -36,27 +38,22 @@ impl<'a, F: Field, E: ExtensionField<F>, S: OpeningScheme<F>> OpeningScheme<E>
 
     ghost commits = { λ s c matrix. S.OpeningScheme.commits s.inner.now c (map (spread E.ExtensionField.extension) matrix) };
 
+    ghost laws = { λ s. extended_laws E.ExtensionField.extension E.ExtensionField.extends.count (some_degree E.ExtensionField.sized) E.ExtensionField.extends.settled (S.OpeningScheme.meaning s.inner.now) (S.OpeningScheme.commits s.inner.now) (S.OpeningScheme.laws s.inner.now) };
+
     fn check<R: Rows<E>>(
         &self,
         commitment: &S::Commitment,
-        positions: usize,
-        indices: &[usize],
+        places: &Places<S::Node>,
         rows: &R,
-        paths: &[S::Node],
     ) -> bool {
         let coefficients = Coefficients {
             rows,
             extension: PhantomData,
         };
-        self.inner
-            .check(commitment, positions, indices, &coefficients, paths)
+        self.inner.check(commitment, places, &coefficients)
     }
 
-    fn write_commitment(&self, commitment: &S::Commitment, out: &mut [u8; 32]) -> usize {
-        self.inner.write_commitment(commitment, out)
-    }
-
-    fn laws_stand(&self) -> u8 {
-        self.inner.laws_stand()
+    fn commitment_bytes(&self, commitment: &S::Commitment) -> ArrayVec<u8, 32> {
+        self.inner.commitment_bytes(commitment)
     }
 }

@@ -1,8 +1,10 @@
 //! Opening schemes: commitments to matrices, and rows that are opened against them.
 #![tactic(auto)]
 
-ghost use Rattle.std.specs.Prelude.{◌≡◌, ℕ, ◌*◌, Bool, List, [], ◌∷◌, ◌++◌, length, drop, ◌==◌};
+ghost use Rattle.std.specs.Prelude.{◌≡◌, ℕ, ◌*◌, List, [], ◌∷◌, ◌++◌, length, ◌==◌};
 ghost use Rattle.commit.specs.Opening.{Meaning, Laws, opens, piece};
+
+use arrayvec::ArrayVec;
 
 pub mod extension;
 pub mod kept;
@@ -41,6 +43,14 @@ pub trait Rows<X> {
         ensures { (s : K) (xs : List X) → K.Sink.fed s xs sink → K.Sink.fed s (xs ++ piece (flat self.now) (wide self.now) row) result };
 }
 
+/// Where rows are opened: among how many positions, at which indices in turn, and with which paths, one after another.
+#[derive(Clone, Copy, PartialEq, Eq, Debug)]
+pub struct Places<'a, N> {
+    pub positions: usize,
+    pub indices: &'a [usize],
+    pub paths: &'a [N],
+}
+
 /// A scheme that opens rows of X against commitments to matrices.
 pub trait OpeningScheme<X> {
     type Commitment;
@@ -56,19 +66,15 @@ pub trait OpeningScheme<X> {
     fn check<R: Rows<X>>(
         &self,
         commitment: &Self::Commitment,
-        positions: usize,
-        indices: &[usize],
+        places: &Places<Self::Node>,
         rows: &R,
-        paths: &[Self::Node],
     ) -> bool
-        ensures { result ≡ opens (meaning self.now) commitment.now (R.Rows.wide rows.now) positions indices.now (R.Rows.flat rows.now) paths.now };
+        ensures { result ≡ opens (meaning self.now) commitment.now (R.Rows.wide rows.now) places.now.positions places.now.indices.now (R.Rows.flat rows.now) places.now.paths.now };
 
-    /// Writes the bytes that a commitment is observed as to the front of a buffer, and says how many they are.
-    fn write_commitment(&self, commitment: &Self::Commitment, out: &mut [u8; 32]) -> usize
-        ensures count { result ≡ length ((meaning self.now).observed commitment.now) }
-        ensures written { out.new ≡ (meaning self.now).observed commitment.now ++ drop result out.old };
+    /// The bytes that a commitment is observed as.
+    fn commitment_bytes(&self, commitment: &Self::Commitment) -> ArrayVec<u8, 32>
+        ensures { result.items ≡ (meaning self.now).observed commitment.now };
 
-    /// Stands for both laws of the scheme.
-    fn laws_stand(&self) -> u8
-        ensures { Laws (meaning self.now) (commits self.now) };
+    /// Both laws of the scheme.
+    ghost laws: { (s : Self) → Laws (meaning s) (commits s) };
 }

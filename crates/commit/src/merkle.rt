@@ -1,13 +1,15 @@
-ghost use Rattle.std.specs.Prelude.{◌≡◌, ℕ, ◌&&◌, List, ◌++◌, ◌==◌};
+ghost use Rattle.std.specs.Prelude.{◌≡◌, ℕ, ◌&&◌, List, ◌++◌, ◌==◌, ◌%◌, ◌/◌, if◌then◌else◌};
 ghost use Rattle.std.specs.Str.{bytes_eq};
 ghost use Rattle.blake2s.specs.Blake2s.{hash};
 ghost use Rattle.blake2s.specs.Absorbed.{Absorbed};
 ghost use Rattle.field.specs.Bytes.{coefficients_bytes};
 ghost use Rattle.commit.specs.Opening.{piece};
 ghost use Rattle.commit.specs.Tree.{levels, ordered, climbs, merkle, RootOf, Placed, PathLengths};
+ghost use Rattle.commit.specs.TreeLaws.{merkle_laws};
 
-use crate::{OpeningScheme, Rows, Sink, view};
-use blake2s::{Hasher, hash_two};
+use crate::{OpeningScheme, Places, Rows, Sink, view};
+use arrayvec::ArrayVec;
+use blake2s::{Hasher, hash_pieces};
 use field::BaseField;
 use std::marker::PhantomData;
 
@@ -24,12 +26,11 @@ impl<F> Merkle<F> {
 }
 
 // Takes in a row element by element, four bytes each.
-struct RowHasher<F> {
+struct RowHasher {
     hasher: Hasher,
-    field: PhantomData<F>,
 }
 
-impl<F: BaseField> Sink<F> for RowHasher<F> {
+impl<F: BaseField> Sink<F> for RowHasher {
     ghost fed = { λ s xs t. (bs : List ℕ) → Absorbed s.hasher bs → Absorbed t.hasher (bs ++ coefficients_bytes F.BaseField.numbering xs) };
 
     fn put(&mut self, element: F) {
@@ -37,14 +38,14 @@ impl<F: BaseField> Sink<F> for RowHasher<F> {
     }
 }
 
+// The digest of a row.
 fn leaf<F: BaseField, R: Rows<F>>(rows: &R, row: usize) -> [u8; 32]
     ensures { result ≡ hash (coefficients_bytes F.BaseField.numbering (piece (R.Rows.flat rows.now) (R.Rows.wide rows.now) row)) }
 {
     let start = RowHasher {
         hasher: Hasher::new(),
-        field: PhantomData,
     };
-    let RowHasher { hasher, field: _ } = rows.feed(row, start);
+    let RowHasher { hasher } = rows.feed(row, start);
     hasher.finish()
 }
 
@@ -53,60 +54,59 @@ fn node(index: usize, digest: &[u8; 32], sibling: &[u8; 32]) -> [u8; 32]
     ensures { result ≡ hash (ordered index digest.now sibling.now) }
 {
     if index % 2 == 0 {
-        hash_two(digest, sibling)
+        hash_pieces(&[digest, sibling])
     } else {
-        hash_two(sibling, digest)
+        hash_pieces(&[sibling, digest])
     }
-}
-
-fn same(a: &[u8], b: &[u8]) -> bool
-    ensures { result ≡ bytes_eq a.now b.now }
-{
-    a == b
 }
 
 // The levels above that many leaves.
 fn levels(positions: usize) -> usize
     ensures { result ≡ levels positions }
 {
-    let mut left = positions;
-    let mut count: usize = 0;
-    while left >= 2 {
-        left /= 2;
-        count += 1;
-    }
-    count
+    positions.max(1).ilog2() as usize
 }
 
-// Is this digest, with so many positions left, the root?
-fn reaches(root: &[u8; 32], left: usize, at: usize, digest: &[u8; 32]) -> bool
-    ensures { result ≡ (left == 1 && (at == 0 && bytes_eq digest.now root.now)) }
-{
-    left == 1 && at == 0 && same(digest, root)
-}
-
-// Do the siblings lead from a digest at an index up to the root?
-fn climbs(
-    root: &[u8; 32],
+// A node of the tree: how many positions its level has, its index among them, and its digest.
+#[derive(Clone, Copy)]
+struct TreeNode {
     positions: usize,
     index: usize,
-    leaf: [u8; 32],
-    path: &[[u8; 32]],
-) -> bool
-    ensures { result ≡ climbs root.now positions index leaf path.now }
-{
-    let mut digest = leaf;
-    let mut left = positions;
-    let mut at = index;
-    for sibling in path {
-        if left % 2 != 0 {
-            return false;
-        }
-        digest = node(at, &digest, sibling);
-        left /= 2;
-        at /= 2;
+    digest: [u8; 32],
+}
+
+impl TreeNode {
+    // The node above this one and its sibling, if the level's positions are pairs.
+    fn parent(&self, sibling: &[u8; 32]) -> Option<TreeNode>
+        ensures { result ≡ (if self.now.positions % 2 == 0 then Some (record { positions = self.now.positions / 2; index = self.now.index / 2; digest = hash (ordered self.now.index self.now.digest sibling.now) }) else None) }
+    {
+        (self.positions % 2 == 0).then(|| TreeNode {
+            positions: self.positions / 2,
+            index: self.index / 2,
+            digest: node(self.index, &self.digest, sibling),
+        })
     }
-    reaches(root, left, at, &digest)
+
+    // Is this the only node of its level, and the digest that of the root?
+    fn is_root(&self, root: &[u8; 32]) -> bool
+        ensures { result ≡ (self.now.positions == 1 && (self.now.index == 0 && bytes_eq self.now.digest root.now)) }
+    {
+        self.positions == 1 && self.index == 0 && self.digest == *root
+    }
+}
+
+// Do the siblings lead from a leaf up to the root?
+fn climbs(root: &[u8; 32], leaf: TreeNode, path: &[[u8; 32]]) -> bool
+    ensures { result ≡ climbs root.now leaf.positions leaf.index leaf.digest path.now }
+{
+    let mut top = leaf;
+    for sibling in path {
+        let Some(parent) = top.parent(sibling) else {
+            return false;
+        };
+        top = parent;
+    }
+    top.is_root(root)
 }
 
 impl<F: BaseField> OpeningScheme<F> for Merkle<F> {
@@ -118,49 +118,44 @@ impl<F: BaseField> OpeningScheme<F> for Merkle<F> {
 
     ghost commits = { λ _ c matrix. RootOf F.BaseField.numbering c matrix };
 
+    ghost laws = { λ _. merkle_laws F.Field.ops F.BaseField.numbering F.BaseField.numbered };
+
     fn check<R: Rows<F>>(
         &self,
         commitment: &[u8; 32],
-        positions: usize,
-        indices: &[usize],
+        places: &Places<[u8; 32]>,
         rows: &R,
-        paths: &[[u8; 32]],
     ) -> bool {
-        let height = levels(positions);
-        if !rows.count_is(indices.len()) || !view::fits(paths.len(), indices.len(), height) {
+        let height = levels(places.positions);
+        let count = places.indices.len();
+        if !rows.count_is(count) || !view::fits(places.paths.len(), count, height) {
             return false;
         }
-        for k in 0..indices.len() {
-            let digest = leaf::<F, R>(rows, k);
-            let path = view::piece(paths, height, k);
-            if !climbs(commitment, positions, indices[k], digest, path) {
+        for (k, index) in places.indices.iter().enumerate() {
+            let leaf = TreeNode {
+                positions: places.positions,
+                index: *index,
+                digest: leaf(rows, k),
+            };
+            if !climbs(commitment, leaf, view::piece(places.paths, height, k)) {
                 return false;
             }
         }
         true
     }
 
-    fn write_commitment(&self, commitment: &[u8; 32], out: &mut [u8; 32]) -> usize {
-        *out = *commitment;
-        32
-    }
-
-    fn laws_stand(&self) -> u8 {
-        0
+    fn commitment_bytes(&self, commitment: &[u8; 32]) -> ArrayVec<u8, 32> {
+        ArrayVec::from(*commitment)
     }
 }
 
-/// Stands for what being right says of positions, index and path: positions that are no power of two, an index that is not
-/// below them and a path of another length are not right.
-pub fn placed_stands<F: BaseField>() -> u8
+/// What being right says of positions, index and path: positions that are no power of two, an index that is not below them
+/// and a path of another length are not right.
+pub fn placed_stands<F: BaseField>()
     ensures { Placed F.BaseField.numbering }
-{
-    0
-}
+{}
 
-/// Stands for the length of a path over a power of two of positions.
-pub fn path_lengths_stand() -> u8
+/// The length of a path over a power of two of positions.
+pub fn path_lengths_stand()
     ensures { PathLengths }
-{
-    0
-}
+{}

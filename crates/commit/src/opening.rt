@@ -1,8 +1,8 @@
 ghost use Rattle.std.specs.Prelude.{◌≡◌, true};
 ghost use Rattle.commit.specs.Opening.{opens, Bound, Own};
 
-use crate::OpeningScheme;
 use crate::view::Flat;
+use crate::{OpeningScheme, Places};
 
 /// Checks rows of a slice against a commitment to a matrix of that width and that many rows.
 ///
@@ -10,20 +10,12 @@ use crate::view::Flat;
 pub fn check_opening<X: Copy, S: OpeningScheme<X>>(
     scheme: &S,
     commitment: &S::Commitment,
-    width: usize,
-    positions: usize,
-    indices: &[usize],
-    rows: &[X],
-    paths: &[S::Node],
+    places: &Places<S::Node>,
+    rows: &Flat<X>,
 ) -> bool
-    ensures answer { result ≡ opens (S.OpeningScheme.meaning scheme.now) commitment.now width positions indices.now rows.now paths.now }
-    ensures bound { result ≡ true → Bound (S.OpeningScheme.meaning scheme.now) (S.OpeningScheme.commits scheme.now) commitment.now width positions indices.now rows.now paths.now }
-    ensures own { Own (S.OpeningScheme.meaning scheme.now) (S.OpeningScheme.commits scheme.now) commitment.now width positions indices.now rows.now paths.now → result ≡ true }
+    ensures answer { result ≡ opens (S.OpeningScheme.meaning scheme.now) commitment.now rows.now.width places.now.positions places.now.indices.now rows.now.elements.now places.now.paths.now }
+    ensures bound { result ≡ true → Bound (S.OpeningScheme.meaning scheme.now) (S.OpeningScheme.commits scheme.now) commitment.now rows.now.width places.now.positions places.now.indices.now rows.now.elements.now places.now.paths.now }
+    ensures own { Own (S.OpeningScheme.meaning scheme.now) (S.OpeningScheme.commits scheme.now) commitment.now rows.now.width places.now.positions places.now.indices.now rows.now.elements.now places.now.paths.now → result ≡ true }
 {
-    let _laws = scheme.laws_stand();
-    let view = Flat {
-        elements: rows,
-        width,
-    };
-    scheme.check(commitment, positions, indices, &view, paths)
+    scheme.check(commitment, places, rows)
 }

@@ -1,5 +1,6 @@
+// Kept: places in one lent slice of values, since nothing is allocated while an opening is checked.
 /// A place for a matrix among the values that are kept: where its first row starts, how many rows it has, and how wide they are.
-#[derive(Clone, Copy)]
+#[derive(Clone, Copy, PartialEq, Eq, Debug)]
 pub struct Shelf {
     pub start: usize,
     pub height: usize,

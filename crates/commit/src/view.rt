@@ -6,8 +6,9 @@ use crate::{Rows, Sink};
 use field::{ExtensionField, Field};
 use std::marker::PhantomData;
 
+// Kept: rows are lent in one flat slice with their width, since nothing is allocated while an opening is checked.
 /// Rows that stand one after another in a slice.
-#[derive(Clone, Copy)]
+#[derive(Clone, Copy, PartialEq, Eq, Debug)]
 pub struct Flat<'a, X> {
     pub elements: &'a [X],
     pub width: usize,
@@ -26,8 +27,7 @@ impl<'a, X: Copy> Rows<X> for Flat<'a, X> {
         self.width == width
     }
 
-    fn feed<K: Sink<X>>(&self, row: usize, sink: K) -> K {
-        let mut sink = sink;
+    fn feed<K: Sink<X>>(&self, row: usize, mut sink: K) -> K {
         for element in piece(self.elements, self.width, row) {
             sink.put(*element);
         }
@@ -40,16 +40,8 @@ pub fn part<X>(list: &[X], start: usize, count: usize) -> &[X]
     ensures part { result.now ≡ take count (drop start list.now) }
     ensures counted { length list.now ≤ 2 ^ 64 - 1 }
 {
-    let from = start.min(size(list));
-    let tail = &list[from..];
-    let kept = count.min(tail.len());
-    &tail[..kept]
-}
-
-fn size<X>(list: &[X]) -> usize
-    ensures { result ≡ length list.now }
-{
-    list.len()
+    let rest = list.get(start..).unwrap_or(&[]);
+    &rest[..count.min(rest.len())]
 }
 
 /// The row at an index among rows that stand one after another in a list.
@@ -63,10 +55,7 @@ pub fn piece<X>(list: &[X], width: usize, index: usize) -> &[X]
 pub fn fits(length: usize, count: usize, width: usize) -> bool
     ensures { result ≡ (length == count * width) }
 {
-    match count.checked_mul(width) {
-        Some(due) => length == due,
-        None => false,
-    }
+    count.checked_mul(width) == Some(length)
 }
 
 /// Takes an extension's elements and gives their coefficients to a sink for base elements.
@@ -80,6 +69,7 @@ impl<F: Field, E: ExtensionField<F>, K: Sink<F>> Sink<E> for Spreading<F, E, K> 
     ghost fed = { λ s es t. (k : K) (xs : List F) → K.Sink.fed k xs s.sink → K.Sink.fed k (xs ++ spread E.ExtensionField.extension es) t.sink };
 
     fn put(&mut self, element: E) {
+        // Kept: an element answers its coefficients one at a time, so an iterator over them would map the same range.
         for j in 0..E::degree() {
             self.sink.put(element.coefficient(j));
         }

@@ -2,20 +2,18 @@
 //! Prints how many were accepted and refused as they have to be, and the bytes of a shelf's number.
 #![tactic(auto)]
 
-use commit::OpeningScheme;
 use commit::extension::ExtensionScheme;
 use commit::kept::KeptTables;
 use commit::merkle::Merkle;
 use commit::opening::check_opening;
-use commit::shelf::Shelf;
-use commit::view::piece;
+use commit::view::Flat;
+use commit::{OpeningScheme, Places};
 use field::pair::Pair;
 use field::residue::Residue;
-use field::{BaseField, ExtensionField, Field};
-use numbers::Numbers;
-use std::alloc::Global;
+use field::{BaseField, ExtensionField};
+use line::{Kind, Line};
 
-mod numbers;
+mod line;
 
 // An opening of rows of X, but for the scheme's own parts.
 #[derive(Drop)]
@@ -26,164 +24,71 @@ struct Opening<X: Copy> {
     rows: Vec<X>,
 }
 
-// A coefficient that is not below the modulus counts as zero: no stored line has one.
-fn element<F: BaseField, E: ExtensionField<F>>(numbers: &[u32]) -> E {
-    let mut y = E::zero();
-    for j in 0..E::degree() {
-        if let Some(number) = numbers.get(j) {
-            y = y.with_coefficient(j, F::from_word(*number));
+impl<X: Copy> Opening<X> {
+    fn places<'a, N>(&'a self, paths: &'a [N]) -> Places<'a, N> {
+        Places {
+            positions: self.positions,
+            indices: self.indices.as_slice(),
+            paths,
         }
     }
-    y
+
+    fn rows(&self) -> Flat<X> {
+        Flat {
+            elements: self.rows.as_slice(),
+            width: self.width,
+        }
+    }
 }
 
-fn elements<F: BaseField, E: ExtensionField<F>>(
-    heap: Global,
-    numbers: &[u32],
-) -> anyhow::Result<Vec<E>> {
-    let degree = E::degree();
-    let mut all = Vec::new(heap);
-    for j in 0..numbers.len() / degree {
-        all.push(element::<F, E>(piece(numbers, degree, j)))?;
-    }
-    Ok(all)
-}
-
-fn read_opening<F: BaseField, E: ExtensionField<F>>(
-    heap: Global,
-    line: &mut Numbers,
-) -> anyhow::Result<Opening<E>> {
-    let width = line.one() as usize;
-    let positions = line.one() as usize;
-    let mut indices = Vec::new(heap);
-    for index in line.counted() {
-        indices.push(*index as usize)?;
-    }
-    let rows = elements::<F, E>(heap, line.counted())?;
+fn read_opening<F: BaseField, E: ExtensionField<F>>(line: &mut Line) -> anyhow::Result<Opening<E>> {
     Ok(Opening {
-        width,
-        positions,
-        indices,
-        rows,
+        width: line.one() as usize,
+        positions: line.one() as usize,
+        indices: line.indices()?,
+        rows: line.rows::<F, E>()?,
     })
 }
 
-fn opens<X: Copy, S: OpeningScheme<X>>(
-    scheme: &S,
-    commitment: &S::Commitment,
-    opening: &Opening<X>,
-    paths: &[S::Node],
-) -> bool {
-    check_opening(
-        scheme,
-        commitment,
-        opening.width,
-        opening.positions,
-        opening.indices.as_slice(),
-        opening.rows.as_slice(),
-        paths,
-    )
-}
-
-// The bytes of eight words.
-fn digest(words: &[u32]) -> [u8; 32] {
-    let mut bytes = [0; 32];
-    for j in 0..8 {
-        if let Some(word) = words.get(j) {
-            let four = word.to_le_bytes();
-            bytes[4 * j] = four[0];
-            bytes[4 * j + 1] = four[1];
-            bytes[4 * j + 2] = four[2];
-            bytes[4 * j + 3] = four[3];
-        }
-    }
-    bytes
-}
-
-fn nodes(heap: Global, words: &[u32]) -> anyhow::Result<Vec<[u8; 32]>> {
-    let mut all = Vec::new(heap);
-    for j in 0..words.len() / 8 {
-        all.push(digest(piece(words, 8, j)))?;
-    }
-    Ok(all)
-}
-
-fn shelves(heap: Global, numbers: &[u32]) -> anyhow::Result<Vec<Shelf>> {
-    let mut all = Vec::new(heap);
-    for j in 0..numbers.len() / 3 {
-        if let [start, height, width] = piece(numbers, 3, j) {
-            all.push(Shelf {
-                start: *start as usize,
-                height: *height as usize,
-                width: *width as usize,
-            })?;
-        }
-    }
-    Ok(all)
-}
-
 // The answer of the scheme's kind to an opening of rows of E, read as coefficients.
-fn tree<F: BaseField, E: ExtensionField<F>>(
-    heap: Global,
-    line: &mut Numbers,
-) -> anyhow::Result<bool> {
-    let opening = read_opening::<F, E>(heap, line)?;
-    let root = digest(line.many(8));
-    let paths = nodes(heap, line.many(usize::MAX))?;
+fn tree<F: BaseField, E: ExtensionField<F>>(line: &mut Line) -> anyhow::Result<bool> {
+    let opening = read_opening::<F, E>(line)?;
+    let root = line.digest();
+    let paths = line.digests()?;
     let merkle = Merkle::<F>::new();
     let scheme = ExtensionScheme::<F, E, Merkle<F>>::new(&merkle);
-    Ok(opens(&scheme, &root, &opening, paths.as_slice()))
+    let places = opening.places(paths.as_slice());
+    Ok(check_opening(&scheme, &root, &places, &opening.rows()))
 }
 
-fn kept<F: BaseField, E: ExtensionField<F>>(
-    heap: Global,
-    line: &mut Numbers,
-) -> anyhow::Result<bool> {
-    let opening = read_opening::<F, E>(heap, line)?;
+fn kept<F: BaseField, E: ExtensionField<F>>(line: &mut Line) -> anyhow::Result<bool> {
+    let opening = read_opening::<F, E>(line)?;
     let number = line.one();
-    let count = (line.one() as usize).saturating_mul(3);
-    let shelves = shelves(heap, line.many(count))?;
-    let values = elements::<F, F>(heap, line.many(usize::MAX))?;
+    let shelves = line.shelves()?;
+    let values = line.values::<F>()?;
     let tables = KeptTables {
         values: values.as_slice(),
         shelves: shelves.as_slice(),
     };
     let scheme = ExtensionScheme::<F, E, KeptTables<F>>::new(&tables);
-    Ok(opens(&scheme, &number, &opening, &[]))
+    let places = opening.places(&[]);
+    Ok(check_opening(&scheme, &number, &places, &opening.rows()))
 }
 
-#[derive(Clone, Copy)]
-enum Kind {
-    Tree,
-    Kept,
-}
-
-fn answer<F: BaseField, E: ExtensionField<F>>(
-    heap: Global,
-    kind: Kind,
-    line: &mut Numbers,
-) -> anyhow::Result<bool> {
+// Kept: a match on the kind of a line, one arm each, says what is compared; a closure for each kind would say no more.
+fn answer<F: BaseField, E: ExtensionField<F>>(kind: Kind, line: &mut Line) -> anyhow::Result<bool> {
     match kind {
-        Kind::Tree => tree::<F, E>(heap, line),
-        Kind::Kept => kept::<F, E>(heap, line),
+        Kind::Tree => tree::<F, E>(line),
+        Kind::Kept => kept::<F, E>(line),
     }
 }
 
-fn answer_below_257(heap: Global, kind: Kind, line: &mut Numbers) -> anyhow::Result<bool> {
+fn answer_over<F: BaseField>(kind: Kind, line: &mut Line) -> anyhow::Result<bool> {
     match line.one() {
-        1 => answer::<Residue<257>, Residue<257>>(heap, kind, line),
-        2 => answer::<Residue<257>, Pair<Residue<257>>>(heap, kind, line),
-        4 => answer::<Residue<257>, Pair<Pair<Residue<257>>>>(heap, kind, line),
-        _ => answer::<Residue<257>, Pair<Pair<Pair<Residue<257>>>>>(heap, kind, line),
-    }
-}
-
-fn answer_below_65537(heap: Global, kind: Kind, line: &mut Numbers) -> anyhow::Result<bool> {
-    match line.one() {
-        1 => answer::<Residue<65537>, Residue<65537>>(heap, kind, line),
-        2 => answer::<Residue<65537>, Pair<Residue<65537>>>(heap, kind, line),
-        4 => answer::<Residue<65537>, Pair<Pair<Residue<65537>>>>(heap, kind, line),
-        _ => answer::<Residue<65537>, Pair<Pair<Pair<Residue<65537>>>>>(heap, kind, line),
+        1 => answer::<F, F>(kind, line),
+        2 => answer::<F, Pair<F>>(kind, line),
+        4 => answer::<F, Pair<Pair<F>>>(kind, line),
+        _ => answer::<F, Pair<Pair<Pair<F>>>>(kind, line),
     }
 }
 
@@ -194,26 +99,28 @@ struct Tally {
     wrong: u32,
 }
 
-fn replay(heap: Global, kind: Kind, numbers: &[u32], tally: &mut Tally) -> anyhow::Result<()> {
-    let mut line = Numbers {
-        all: numbers,
-        at: 0,
-    };
+impl Tally {
+    fn count(&mut self, due: bool, got: bool) {
+        let place = match (due, got) {
+            (true, true) => &mut self.accepted,
+            (false, false) => &mut self.refused,
+            _ => &mut self.wrong,
+        };
+        *place = place.saturating_add(1);
+    }
+}
+
+fn replay(kind: Kind, line: &mut Line, tally: &mut Tally) -> anyhow::Result<()> {
     let due = line.one() == 1;
     let got = match line.one() {
-        257 => answer_below_257(heap, kind, &mut line)?,
-        _ => answer_below_65537(heap, kind, &mut line)?,
+        257 => answer_over::<Residue<257>>(kind, line)?,
+        _ => answer_over::<Residue<65537>>(kind, line)?,
     };
-    if got != due {
-        tally.wrong = tally.wrong.saturating_add(1);
-    } else if got {
-        tally.accepted = tally.accepted.saturating_add(1);
-    } else {
-        tally.refused = tally.refused.saturating_add(1);
-    }
+    tally.count(due, got);
     Ok(())
 }
 
+// Kept: each program of stored lines counts them by itself, since which lines count and what is printed differ.
 fn run(rt: &HostRuntime) -> anyhow::Result<()> {
     let mut tally = Tally::default();
     for line in rt.lines(rt.alloc()) {
@@ -222,30 +129,31 @@ fn run(rt: &HostRuntime) -> anyhow::Result<()> {
         for word in line.split_whitespace().skip(1) {
             numbers.push(word.parse::<u32>()?)?;
         }
-        let kind = if line.starts_with("kept") {
-            Kind::Kept
-        } else {
-            Kind::Tree
-        };
-        replay(rt.alloc(), kind, numbers.as_slice(), &mut tally)?;
+        replay(
+            Kind::of(&line),
+            &mut Line::new(rt.alloc(), numbers.as_slice()),
+            &mut tally,
+        )?;
     }
-    let accepted = tally.accepted;
-    let refused = tally.refused;
-    let wrong = tally.wrong;
+    let Tally {
+        accepted,
+        refused,
+        wrong,
+    } = tally;
     println!(rt; "{accepted} openings accepted, {refused} refused, {wrong} answered wrongly")?;
     Ok(())
 }
 
-// The bytes that the shelf number 16909060, in hexadecimal 01020304, is observed as.
+// The bytes that the shelf number 16909060, in hexadecimal 01020304, is observed as, at the front of a buffer of nines.
 fn show_shelf_number(rt: &HostRuntime) -> anyhow::Result<()> {
     let tables = KeptTables::<Residue<257>> {
         values: &[],
         shelves: &[],
     };
-    let mut out = [9; 32];
-    let count = tables.write_commitment(&16909060, &mut out);
+    let bytes = tables.commitment_bytes(&16909060);
+    let count = bytes.len();
     print!(rt; "{count} bytes:")?;
-    for byte in &out[0..6] {
+    for byte in bytes.iter().chain(&[9; 32]).take(6) {
         print!(rt; " {byte}")?;
     }
     println!(rt; "")?;

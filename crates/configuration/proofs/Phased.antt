@@ -8,10 +8,13 @@ use Rattle.parameters.specs.Schedule.{schedule, Verdict, planned, refused}
 use Rattle.parameters.proofs.Laws.{schedules_lawful}
 use Rattle.configuration.specs.Numbers.{Numbers}
 use Rattle.configuration.specs.Limits.{within_limits}
-use Rattle.configuration.specs.Phases.{same, every, factor, left, rates_agree, log_positions_of, domain_fits, phase_agrees, opening_within, consistent, openings_within, rows_at, query_draws, queries}
+use Rattle.configuration.specs.Phases.{same, every, factor, left, log_domain, rates_agree, log_positions_of, domain_fits, phase_agrees, opening_within, consistent, openings_within, rows_at, query_draws, queries}
 use Rattle.configuration.specs.Verdicts.{fault, fault_of_plan, limit, inconsistent, Checked, Phased, ConfigurationsPhased}
-use Rattle.configuration.proofs.Walks.{every_at, same_true}
-use Rattle.configuration.proofs.Rounds.{capacity_small}
+use Rattle.std.proofs.lemmas.Option.{none-some}
+use Rattle.std.proofs.lemmas.Bool.Decides.{Decides-eqb}
+use Rattle.std.proofs.lemmas.Slice.Eq.{slice_eq-Decides}
+use Rattle.configuration.proofs.Walks.{every_at}
+use Rattle.configuration.proofs.Rounds.{capacity_small, domains_small}
 
 -- the parts of consistency
 pub record Parts (N : Numbers) (ks : List ℕ) : Type 0 where
@@ -39,6 +42,10 @@ parts N ks e =
       rates_agreeing = f.1;
     }
 
+-- every domain of consistent numbers within their limits is small
+pub domains_of : (N : Numbers) (ks : List ℕ) → within_limits N ≡ true → consistent N ks ≡ true → (i : ℕ) → i < length ks → log_domain N ks i ≤ 16
+domains_of N ks w e = domains_small N ks w (parts N ks e).fitting
+
 next : (N : Numbers) (ks : List ℕ) (i : ℕ) → sum ks ≤ N.variables → i < length ks → left N ks (suc i) + factor ks i ≡ left N ks i
 next N ks i w h =
     rw (← add-one i) (omega (arith, sum_by_more (λ x. x) ks i 0 h, sum_by-take-le (λ x. x) ks (i + 1)))
@@ -57,7 +64,7 @@ phased N ks ch =
     let law = schedules_lawful 6 N.variables N.strategy ks ch.planned_so in
     let open_at : (i : ℕ) → i < length ks → opening_within N ks i ≡ true = λ i h. every_at (opening_within N ks) (length ks) i ch.opening_few h in
     record {
-      stored_so = same_true N.stored ks p.stored_same;
+      stored_so = (slice_eq-Decides Decides-eqb N.stored ks (same N.stored ks) refl).0 p.stored_same;
       rounds_so = eqb-true _ _ p.rounds_count;
       folds_within = law.within;
       first_left = omega arith;
@@ -72,7 +79,7 @@ phased N ks ch =
 
 -- no fault: every check passed
 some_none : {X : Type 0} (e : Refusal) → Some e ≡ None → X
-some_none e p = let z : ◌≡◌ {A = ℕ} 0 1 = cc in absurd (omega arith)
+some_none e p = absurd (none-some e (sym p))
 
 plan_checked : (N : Numbers) (v : Verdict) → within_limits N ≡ true → schedule 6 N.strategy N.variables ≡ v → fault_of_plan N v ≡ None
     → (ks : List ℕ) × Checked N ks

@@ -1,23 +1,39 @@
 -- Facts of a checked configuration that its accessors rest on.
-use Rattle.std.proofs.Common.{◌≡◌, ℕ, zero, suc, ◌+◌, ◌-◌, ◌^◌, ◌<◌, ◌≤◌, min, max, true, not, ◌&&◌, ltb, leb, List, [], ◌∷◌, map, length, get_or, take, is_some, Some, None, fold, sum, Option, unwrap_or, sym, refl, ap, ◌∙◌, subst, ⊎_elim, add-one, arith}
+use Rattle.std.proofs.Common.{◌≡◌, ℕ, suc, ◌+◌, ◌-◌, ◌*◌, ◌%◌, ◌^◌, ◌<◌, ◌≤◌, min, true, not, ◌&&◌, ltb, leb, List, [], ◌∷◌, length, get_or, take, is_some, is_ok, Some, None, Ok, Err, sum, Option, Result, option_map, MatchOption, unwrap_or, mod-eq_of_lt, one-mul, sym, refl, ap, ◌∙◌, subst, ⊎_elim, add-one, arith}
 use Rattle.std.specs.List.{slice_get}
-use Rattle.std.proofs.lemmas.List.{take_all, take_more, map_push}
-use Rattle.std.proofs.lemmas.List.Sums.{sum_by_more, sum_by-take-le, fold_push}
+use Rattle.std.proofs.lemmas.List.{take_all}
+use Rattle.std.proofs.lemmas.List.Sums.{sum_by-take-le}
+use Rattle.std.proofs.lemmas.List.FromFn.{get_or-map-range_with_len, length-map-range_with_len}
+use Rattle.std.proofs.lemmas.Option.{slice_get-get_or, unwrap_or-slice_get}
+use Rattle.std.proofs.lemmas.Iterator.Adapters.{option_map_id}
+use Rattle.std.proofs.lemmas.Iterator.Consumers.{nth_from_yields_List, YieldsList-from_first}
+use Rattle.std.proofs.lemmas.Nat.{pow_below}
+use Rattle.std.specs.Iterator.{YieldsThen, YieldsFirst}
 use Rattle.std.proofs.lemmas.Bool.{and_parts, leb-true, cond-true, lt-ltb, cases_lt}
 use Rattle.configuration.specs.declared.whir_parameters.RoundConfig.{RoundConfig}
 use Rattle.parameters.specs.Refusals.{Refusal}
 use Rattle.configuration.specs.Numbers.{Numbers}
 use Rattle.configuration.specs.Limits.{within_limits, sizes_within, difficulties_within, others_within, at_most, factors_of}
-use Rattle.configuration.specs.Phases.{left, rate, factor, log_domain, log_positions_of, no_round}
+use Rattle.configuration.specs.declared.whir_parameters.SecurityAssumption.{SecurityAssumption}
+use Rattle.configuration.specs.declared.whir_parameters.UnknownSoundness.{UnknownSoundness}
+use Rattle.configuration.specs.declared.walk.PhaseNumbers.{PhaseNumbers}
+use Rattle.configuration.specs.declared.walk.Phases.{Phases}
+use Rattle.configuration.specs.Phases.{left, rate, factor}
+use Rattle.configuration.specs.Walk.{phase_at, phases, phases_left}
 use Rattle.configuration.specs.Verdicts.{fault, flawless, Phased}
-use Rattle.configuration.specs.Views.{reduction, hardest_of, final_round}
+use Rattle.configuration.specs.Views.{NamesKind, reduction, final_round}
+use Rattle.configuration.proofs.Walks.{domain_there}
 use Rattle.configuration.proofs.Phased.{checked, phased}
 
 unflawed : (f : Option Refusal) → not (is_some f) ≡ true → f ≡ None
 unflawed None e = refl
-unflawed (Some x) e = let z : ◌≡◌ {A = ℕ} 0 1 = cc in absurd (omega arith)
+unflawed (Some x) e = cc
 
--- a checked configuration has its phases in order, by its stored schedule
+-- a checked configuration is within its limits
+pub limited_so : (N : Numbers) → flawless N ≡ true → within_limits N ≡ true
+limited_so N e = (checked N (unflawed (fault N) e)).1.limited
+
+-- and has its phases in order, by its stored schedule
 pub in_order : (N : Numbers) → flawless N ≡ true → Phased N N.stored
 in_order N e =
     let c = checked N (unflawed (fault N) e) in
@@ -27,15 +43,15 @@ in_order N e =
 pub soundness_small : (N : Numbers) → flawless N ≡ true → N.soundness ≤ 2
 unfolding within_limits
 soundness_small N e =
-    let w = (checked N (unflawed (fault N) e)).1.limited in
+    let w = limited_so N e in
     let sizes = (and_parts (sizes_within N) _ w).0 in
     let last = (and_parts (leb 1 N.variables && at_most 16 (N.variables ∷ N.capacity ∷ length (factors_of N.strategy) ∷ [])) _ sizes).1 in
     leb-true _ _ (and_parts (leb (length N.id) 32) _ last).1
 
-pub value_nth : (xs : List ℕ) (i : ℕ) → unwrap_or (slice_get xs i) 0 ≡ get_or xs i 0
-value_nth [] i = refl
-value_nth (x ∷ xs) zero = refl
-value_nth (x ∷ xs) (suc i) = value_nth xs i
+-- a number that is at most 2 names a kind
+pub kind_known : (n : ℕ) (r : Result SecurityAssumption UnknownSoundness) → NamesKind n r → n ≤ 2 → is_ok r ≡ true
+kind_known n (Ok kind) h small = refl
+kind_known n (Err e) h small = absurd (omega (arith, h.0))
 
 -- the first domain
 pub first_domain : (N : Numbers) → flawless N ≡ true → N.variables + N.first_rate ≤ 16
@@ -43,99 +59,106 @@ first_domain N e =
     let p = in_order N e in
     omega (arith, p.fits 0 (omega (arith, p.rounds_so)), p.first_left, p.capacity_small)
 
--- one factor more, up to the phase
-pub before_more : (ks : List ℕ) (n phase i l : ℕ) → l ≡ n - sum (take (min i phase) ks) → i < length ks → i < phase
-    → l - get_or ks i 0 ≡ n - sum (take (min (i + 1) phase) ks)
-before_more ks n phase i l e h k =
-    let a : min i phase ≡ i = omega arith in
-    let b : min (i + 1) phase ≡ i + 1 = omega arith in
-    let s = sum_by_more (λ x. x) ks i 0 h in
-    ap (λ x. x - get_or ks i 0) (e ∙ ap (λ k. n - sum (take k ks)) a) ∙ omega (arith, s) ∙ ap (λ k. n - sum (take k ks)) (sym b)
-
-pub before_same : (ks : List ℕ) (n phase i l : ℕ) → l ≡ n - sum (take (min i phase) ks) → phase ≤ i → l ≡ n - sum (take (min (i + 1) phase) ks)
-before_same ks n phase i l e k =
-    let a : min i phase ≡ min (i + 1) phase = omega arith in e ∙ ap (λ k. n - sum (take k ks)) a
-
-pub before_all : (ks : List ℕ) (n phase i l : ℕ) → l ≡ n - sum (take (min i phase) ks) → length ks ≤ i → i ≤ length ks → l ≡ n - sum (take phase ks)
-before_all ks n phase i l e low high =
-    ⊎_elim (λ h. let a : min i phase ≡ phase = omega arith in e ∙ ap (λ k. n - sum (take k ks)) a)
-    (λ h. let a : min i phase ≡ i = omega arith in
-    e ∙ ap (λ k. n - sum (take k ks)) a ∙ ap (λ l. n - sum l) (take_all i ks low ∙ sym (take_all phase ks (omega arith))))
-    (cases_lt phase i)
-
--- the harder of the difficulties so far
-pub hardest_more : (rs : List RoundConfig) (outer i most d : ℕ) → most ≡ fold max outer (map hardest_of (take i rs)) → i < length rs
-    → d ≡ hardest_of (get_or rs i no_round) → max most d ≡ fold max outer (map hardest_of (take (i + 1) rs))
-hardest_more rs outer i most d e h q =
-    let more : map hardest_of (take (i + 1) rs) ≡ _ = ap (map hardest_of) (take_more rs i no_round h) ∙ map_push hardest_of (take i rs) (get_or rs i no_round) in
-    ap (λ x. max x d) e ∙ ap (max (fold max outer (map hardest_of (take i rs)))) q
-    ∙ sym (ap (fold max outer) more ∙ fold_push max outer (map hardest_of (take i rs)) (hardest_of (get_or rs i no_round)))
-
 -- the shrinking of a round
 pub reduces : (N : Numbers) (i f e sum-up r : ℕ) → flawless N ≡ true → i < length N.rounds → f ≡ get_or N.stored i 0 → e ≡ rate N i
-    → sum-up ≡ min (e + f) 18446744073709551615 → r ≡ sum-up - rate N (i + 1) → Some r ≡ reduction N i
+    → sum-up ≡ min (e + f) 18446744073709551615 → r ≡ sum-up - rate N (suc i) → Some r ≡ reduction N i
 reduces N i f e sum-up r flaw h p q s t =
     let ph = in_order N flaw in
     let short : i < length N.stored = omega (arith, ph.rounds_so) in
     let small = ph.fits i short in
     let cap = ph.capacity_small in
     let ten = (ph.factors i short).1 in
-    let later : rate N (i + 1) ≡ rate N (suc i) = ap (rate N) (add-one i) in
     let value : r ≡ rate N i + factor N.stored i - rate N (suc i) = omega arith in
     ap Some value ∙ sym (cond-true (ltb i (length N.rounds)) _ _ (lt-ltb _ _ h))
 
-stored_short : (N : Numbers) → flawless N ≡ true → length N.stored ≤ 65535
+-- there are few factors and few rounds
+pub lengths_small : (N : Numbers) → flawless N ≡ true → (length N.stored ≤ 65535) × (length N.rounds ≤ 65535)
 unfolding within_limits
-stored_short N e =
-    let w = (checked N (unflawed (fault N) e)).1.limited in
+lengths_small N e =
+    let w = limited_so N e in
     let others = (and_parts (others_within N) _ (and_parts (difficulties_within N) _ (and_parts (sizes_within N) _ w).1).1).0 in
     let lengths = (and_parts (at_most 65535 (N.first_rate ∷ N.level ∷ N.budget ∷ N.commitment_samples ∷ N.terminal.num_queries ∷ N.final_rounds ∷ [])) _ others).1 in
-    leb-true _ _ (and_parts (leb (length N.stored) 65535) _ (and_parts (leb (length N.listed_rates) 65535) _ lengths).1).0
+    let stored = and_parts (leb (length N.stored) 65535) _ (and_parts (leb (length N.listed_rates) 65535) _ lengths).1 in
+    (leb-true _ _ stored.0, leb-true _ _ (and_parts (leb (length N.rounds) 65535) _ stored.1).0)
 
--- what is folded away through a phase
-pub folded_through : (N : Numbers) (i up l : ℕ) → flawless N ≡ true → up ≡ min (i + 1) 18446744073709551615
-    → l ≡ N.variables - sum (take up N.stored) → N.variables - l ≡ sum (take (i + 1) N.stored)
-folded_through N i up l flaw e f =
-    let within = (in_order N flaw).folds_within in
-    let short = stored_short N flaw in
-    let most = sum_by-take-le (λ x. x) N.stored up in
-    let same_take : take up N.stored ≡ take (i + 1) N.stored =
+-- what is folded away is no more than there is, which is little
+pub folds_fit : (N : Numbers) (n : ℕ) → flawless N ≡ true → sum (take n N.stored) ≤ 16
+folds_fit N n flaw = omega (arith, (in_order N flaw).folds_within, first_domain N flaw, sum_by-take-le (λ x. x) N.stored n)
+
+-- a phase past every index takes all of the factors
+pub folded_through : (N : Numbers) (i up : ℕ) → flawless N ≡ true → up ≡ min (i + 1) 18446744073709551615
+    → take up N.stored ≡ take (i + 1) N.stored
+folded_through N i up flaw e =
+    let short = (lengths_small N flaw).0 in
     ⊎_elim (λ h. let q : up ≡ i + 1 = omega arith in ap (λ k. take k N.stored) q)
     (λ h. take_all up N.stored (omega arith) ∙ sym (take_all (i + 1) N.stored (omega arith)))
-    (cases_lt i 18446744073709551615) in
-    let value : N.variables - l ≡ sum (take up N.stored) = omega arith in
-    value ∙ ap sum same_take
+    (cases_lt i 18446744073709551615)
 
 -- the final phase
-abbrev pub round_from : (N : Numbers) → ℕ → ℕ → ℕ → ℕ → ℕ → RoundConfig
-round_from N v k e d f = record {
+final_phase : (N : Numbers) (r : Option PhaseNumbers) (n : ℕ) → flawless N ≡ true → n ≡ length N.rounds
+    → option_map (λ p. p) r ≡ slice_get (phases N N.stored) n → r ≡ Some (phase_at N N.stored (length N.rounds))
+final_phase N r n flaw m e =
+    let few = (in_order N flaw).rounds_so in
+    let short : n < length N.stored = omega (arith, few) in
+    let count = length-map-range_with_len (phase_at N N.stored) 0 (length N.stored) in
+    let at = phase_at N N.stored n in
+    sym (option_map_id r) ∙ e ∙ slice_get-get_or (phases N N.stored) n at (omega (arith, count))
+    ∙ ap Some (get_or-map-range_with_len (phase_at N N.stored) 0 (length N.stored) n n at short (omega arith))
+    ∙ ap (λ k. Some (phase_at N N.stored k)) m
+
+-- the item that the iterator gives after as many phases as there are rounds
+pub final_nth : (N : Numbers) (s : Phases) (r : Option PhaseNumbers) (u : Phases) (n : ℕ) → flawless N ≡ true → phases_left s ≡ phases N N.stored
+    → n ≡ length N.rounds
+    → (xs : List PhaseNumbers) × YieldsThen (YieldsFirst phases_left) s xs r u × MatchOption r (length xs ≤ n) (λ _. length xs ≡ n)
+    → r ≡ Some (phase_at N N.stored (length N.rounds))
+final_nth N s r u n flaw all m ran =
+    final_phase N r n flaw m (nth_from_yields_List r u n ran (YieldsList-from_first (λ p. p) phases_left {s = s} (phases N N.stored) all))
+
+-- what was read of it
+pub final_last : (N : Numbers) (r : Option PhaseNumbers) (p : PhaseNumbers) → r ≡ Some (phase_at N N.stored (length N.rounds)) → r ≡ Some p
+    → p ≡ phase_at N N.stored (length N.rounds)
+final_last N r p e s = cc
+
+-- the power of a small log
+pub shifted : (k : ℕ) → k < 64 → (1 * 2 ^ k) % 18446744073709551616 ≡ 2 ^ k
+shifted k h = ap (λ x. x % 18446744073709551616) (one-mul (2 ^ k)) ∙ mod-eq_of_lt (pow_below k 64 h)
+
+-- its domain is small, and it folds no more than it has
+pub record SmallPhase (p : PhaseNumbers) : Type 0 where
+  pub domain : p.variables + p.rate ≤ 16
+  pub fold : p.factor ≤ p.variables
+
+phase_small : (N : Numbers) (i : ℕ) → flawless N ≡ true → i < length N.stored → SmallPhase (phase_at N N.stored i)
+phase_small N i flaw h =
+    let ph = in_order N flaw in
+    record { domain = omega (arith, ph.fits i h, ph.capacity_small); fold = omega (arith, ph.next_left i h) }
+
+pub phase_there : (N : Numbers) → flawless N ≡ true → (p : PhaseNumbers) (i : ℕ) → i < length (phases N N.stored) → p ≡ get_or (phases N N.stored) i p
+    → p.variables + p.rate ≤ 16
+phase_there N flaw = domain_there N N.stored (λ i h. (phase_small N i flaw h).domain)
+
+pub final_small : (N : Numbers) (p : PhaseNumbers) → flawless N ≡ true → p ≡ phase_at N N.stored (length N.rounds) → SmallPhase p
+final_small N p flaw e =
+    let few = (in_order N flaw).rounds_so in
+    subst SmallPhase (sym e) (phase_small N (length N.rounds) flaw (omega (arith, few)))
+
+abbrev pub round_from : (N : Numbers) → PhaseNumbers → ℕ → RoundConfig
+round_from N p size = record {
   pow_bits = N.terminal.pow_bits;
   folding_pow_bits = N.final_difficulty;
   num_queries = N.terminal.num_queries;
   ood_samples = 0;
-  num_variables = v;
-  folding_factor = k;
-  log_inv_rate = e;
-  domain_size = d;
-  log_folded_domain_size = f;
+  num_variables = p.variables - p.factor;
+  folding_factor = p.factor;
+  log_inv_rate = p.rate;
+  domain_size = size;
+  log_folded_domain_size = p.variables + p.rate - p.factor;
 }
 
-pub final_there : (N : Numbers) (last l k e log d f v : ℕ) → flawless N ≡ true → last ≡ length N.rounds → l ≡ left N N.stored last
-    → k ≡ get_or N.stored last 0 → e ≡ rate N last → log ≡ min (l + e) 18446744073709551615 → (log < 64 → d ≡ 2 ^ log) → f ≡ log - k → v ≡ l - k
-    → round_from N v k e d f ≡ final_round N
-final_there N last l k e log d f v flaw pl pv pk pe plog pd pf pn =
+final_as : (N : Numbers) → flawless N ≡ true → let p = phase_at N N.stored (length N.rounds) in round_from N p (2 ^ (p.variables + p.rate)) ≡ final_round N
+final_as N flaw =
     let ph = in_order N flaw in
-    let short : last < length N.stored = omega (arith, ph.rounds_so) in
-    let small = ph.fits last short in
-    let cap = ph.capacity_small in
-    let next = ph.next_left last short in
-    let log_is : log ≡ log_domain N N.stored last = omega arith in
-    let v_is : v ≡ left N N.stored (suc last) = omega arith in
-    let f_is : f ≡ log_positions_of N N.stored last = omega arith in
-    let d_is : d ≡ 2 ^ log_domain N N.stored last = pd (omega arith) ∙ ap (λ x. 2 ^ x) log_is in
-    ap (λ x. round_from N x k e d f) (v_is ∙ ap (left N N.stored) (sym (add-one last)))
-    ∙ ap (λ x. round_from N (left N N.stored (last + 1)) x e d f) pk
-    ∙ ap (λ x. round_from N (left N N.stored (last + 1)) (factor N.stored last) x d f) pe
-    ∙ ap (λ x. round_from N (left N N.stored (last + 1)) (factor N.stored last) (rate N last) x f) d_is
-    ∙ ap (λ x. round_from N (left N N.stored (last + 1)) (factor N.stored last) (rate N last) (2 ^ log_domain N N.stored last) x) f_is
-    ∙ ap (λ m. round_from N (left N N.stored (m + 1)) (factor N.stored m) (rate N m) (2 ^ log_domain N N.stored m) (log_positions_of N N.stored m)) pl
+    let m = length N.rounds in
+    let next = ph.next_left m (omega (arith, ph.rounds_so)) in
+    let v : left N N.stored m - factor N.stored m ≡ left N N.stored (m + 1) = rw add-one (omega (arith, next)) in
+    cc

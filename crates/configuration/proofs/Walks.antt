@@ -1,34 +1,18 @@
--- Tests over a list or over the numbers below a bound, one step at a time.
-use Rattle.std.proofs.Common.{◌≡◌, ℕ, zero, suc, ◌+◌, ◌<◌, ◌≤◌, Bool, true, false, ◌&&◌, eqb, List, [], ◌∷◌, length, get_or, drop, sym, refl, ap, ◌∙◌, ⊎_elim, add-one, arith}
-use Rattle.std.proofs.lemmas.List.{at_drop_more, at_drop_all, drop_more, drop_all}
-use Rattle.std.proofs.lemmas.Bool.{and_left, and_right, and_from, and_parts, cases_eq, ne_eqb, eq-eqb, eqb-true}
-use Rattle.configuration.specs.Limits.{all_by}
-use Rattle.configuration.specs.Phases.{every, same}
+-- The phases in turn, and tests over all of them.
+use Rattle.std.proofs.Common.{◌≡◌, ℕ, zero, suc, ◌+◌, ◌-◌, ◌<◌, ◌≤◌, Bool, true, false, ◌&&◌, eqb, List, [], ◌∷◌, map, length, get_or, take, drop, zip, sum, sym, refl, ap, ◌∙◌, subst, ⊎_elim, add-one, arith}
+use Rattle.std.specs.List.{range_with_len, list_all}
+use Rattle.std.proofs.lemmas.List.FromFn.{fill_by_all, get_or-map-range_with_len, length-map-range_with_len, map-range_with_len_more}
+use Rattle.std.proofs.lemmas.List.Folds.{list_all-append}
+use Rattle.std.proofs.lemmas.List.Sums.{sum_by-cons}
+use Rattle.std.proofs.lemmas.Slice.Zip.{length-zip, get_or-zip}
+use Rattle.std.proofs.lemmas.Bool.{and_parts, and_right, cases_eq}
+use Rattle.configuration.specs.declared.whir_parameters.RoundConfig.{RoundConfig}
+use Rattle.configuration.specs.declared.walk.PhaseNumbers.{PhaseNumbers}
+use Rattle.configuration.specs.Numbers.{Numbers}
+use Rattle.configuration.specs.Phases.{same, every, rate, rates_of, queries_of, factor, log_domain, no_round, round_at, phase_agrees, rate_follows}
+use Rattle.configuration.specs.Walk.{phase_at, phases, paired, pair_agrees, pair_follows, phases_from}
 
-pub all_by_more : {X : Type 0} (test : X → Bool) (xs : List X) (i : ℕ) (d : X) (w : Bool) → w ≡ all_by test (drop i xs) → i < length xs
-    → test (get_or xs i d) ≡ true → w ≡ all_by test (drop (i + 1) xs)
-all_by_more test xs i d w e h p = e ∙ at_drop_more (all_by test) xs i d h ∙ ap (λ b. b && all_by test (drop (i + 1) xs)) p
-
-pub all_by_stop : {X : Type 0} (test : X → Bool) (xs : List X) (i : ℕ) (d : X) (w : Bool) → w ≡ all_by test (drop i xs) → i < length xs
-    → test (get_or xs i d) ≡ false → false ≡ w
-all_by_stop test xs i d w e h p = sym (e ∙ at_drop_more (all_by test) xs i d h ∙ ap (λ b. b && all_by test (drop (i + 1) xs)) p)
-
-pub all_by_all : {X : Type 0} (test : X → Bool) (xs : List X) (i : ℕ) (w : Bool) → w ≡ all_by test (drop i xs) → length xs ≤ i → true ≡ w
-all_by_all test xs i w e h = sym (e ∙ at_drop_all (all_by test) xs i h)
-
-pub every_more : (test : ℕ → Bool) (i : ℕ) → every i test ≡ true → test i ≡ true → every (i + 1) test ≡ true
-unfolding every
-every_more test i e p = rw (add-one i) (and_from _ _ e p)
-
-pub every_stop : (test : ℕ → Bool) (n i : ℕ) → i < n → test i ≡ false → every n test ≡ false
-unfolding every
-every_stop test zero i h p = absurd (omega arith)
-every_stop test (suc n) i h p =
-    ⊎_elim (λ e. and_right (every n test) _ (ap test (sym e) ∙ p)) (λ ne. and_left _ _ (every_stop test n i (omega (arith, ne)) p)) (cases_eq i n)
-
-pub every_end : (test : ℕ → Bool) (n i : ℕ) → every i test ≡ true → n ≤ i → i ≤ n → true ≡ every n test
-every_end test n i e low high = let q : i ≡ n = omega arith in sym (ap (λ k. every k test) (sym q) ∙ e)
-
+-- ---- a test over the numbers below a bound
 pub every_at : (test : ℕ → Bool) (n i : ℕ) → every n test ≡ true → i < n → test i ≡ true
 unfolding every
 every_at test zero i e h = absurd (omega arith)
@@ -36,51 +20,120 @@ every_at test (suc n) i e h =
     let parts = and_parts (every n test) (test n) e in
     ⊎_elim (λ q. ap test q ∙ parts.1) (λ ne. every_at test n i parts.0 (omega (arith, ne))) (cases_eq i n)
 
-pub same_cons : (x y : ℕ) (xs ys : List ℕ) → same (x ∷ xs) (y ∷ ys) ≡ (eqb x y && same xs ys)
-unfolding same
-same_cons x y xs ys = refl
+every_same : (n : ℕ) (s t : ℕ → Bool) → ((i : ℕ) → s i ≡ t i) → every n s ≡ every n t
+unfolding every
+every_same zero s t h = refl
+every_same (suc n) s t h = ap (λ b. b && s n) (every_same n s t h) ∙ ap (λ b. every n t && b) (h n)
 
-pub same_refl : (xs : List ℕ) → same xs xs ≡ true
-unfolding same
-same_refl [] = refl
-same_refl (x ∷ xs) = and_from _ _ (eq-eqb x x refl) (same_refl xs)
+and_true : (b : Bool) → (b && true) ≡ b
+and_true true = refl
+and_true false = refl
 
-same_at : (xs ys : List ℕ) (i : ℕ) → i < length xs → i < length ys
-    → same (drop i xs) (drop i ys) ≡ (eqb (get_or xs i 0) (get_or ys i 0) && same (drop (i + 1) xs) (drop (i + 1) ys))
-same_at xs ys i h k =
-    ap (λ l. same l (drop i ys)) (drop_more xs i 0 h) ∙ ap (same (get_or xs i 0 ∷ drop (i + 1) xs)) (drop_more ys i 0 k)
-    ∙ same_cons (get_or xs i 0) (get_or ys i 0) (drop (i + 1) xs) (drop (i + 1) ys)
+pub list_all-every : {X : Type 0} (test : X → Bool) (f : ℕ → X) (n : ℕ) → list_all test (map f (range_with_len 0 n)) ≡ every n (λ i. test (f i))
+unfolding every
+list_all-every test f zero = refl
+list_all-every test f (suc n) =
+    ap (λ k. list_all test (map f (range_with_len 0 k))) (sym (add-one n))
+    ∙ ap (list_all test) (map-range_with_len_more f 0 n n (omega arith)) ∙ list_all-append test (map f (range_with_len 0 n)) (f n ∷ [])
+    ∙ ap (λ b. b && (test (f n) && true)) (list_all-every test f n) ∙ ap (λ b. every n (λ i. test (f i)) && b) (and_true (test (f n)))
 
-pub same_more : (xs ys : List ℕ) (i : ℕ) (w : Bool) → w ≡ same (drop i xs) (drop i ys) → length xs ≡ length ys → i < length xs
-    → get_or xs i 0 ≡ get_or ys i 0 → w ≡ same (drop (i + 1) xs) (drop (i + 1) ys)
-same_more xs ys i w e l h q =
-    e ∙ same_at xs ys i h (omega arith) ∙ ap (λ b. b && same (drop (i + 1) xs) (drop (i + 1) ys)) (eq-eqb (get_or xs i 0) (get_or ys i 0) q)
+-- ---- the phases in turn
+rate_from : ℕ → List RoundConfig → ℕ → ℕ
+rate_from e rs zero = e
+rate_from e rs (suc i) = get_or (rates_of rs) i 0
 
-pub same_stop : (xs ys : List ℕ) (i : ℕ) (w : Bool) → w ≡ same (drop i xs) (drop i ys) → length xs ≡ length ys → i < length xs
-    → (get_or xs i 0 ≡ get_or ys i 0 → ⊥) → false ≡ w
-same_stop xs ys i w e l h q =
-    sym (e ∙ same_at xs ys i h (omega arith) ∙ ap (λ b. b && same (drop (i + 1) xs) (drop (i + 1) ys)) (ne_eqb (get_or xs i 0) (get_or ys i 0) q))
+phase_from : ℕ → ℕ → ℕ → List RoundConfig → List ℕ → ℕ → PhaseNumbers
+phase_from q l e rs ks i = record { variables = l - sum (take i ks); rate = rate_from e rs i; factor = get_or ks i 0; queries = get_or (queries_of rs) i q }
 
-pub same_end : (xs ys : List ℕ) (i : ℕ) (w : Bool) → w ≡ same (drop i xs) (drop i ys) → length xs ≡ length ys → length xs ≤ i → true ≡ w
-unfolding same
-same_end xs ys i w e l h =
-    sym (e ∙ ap (λ l. same l (drop i ys)) (drop_all i xs h) ∙ ap (same []) (drop_all i ys (omega arith)))
+rate_next : (rs : List RoundConfig) (i : ℕ) → rate_from (get_or (rates_of rs) 0 0) (drop 1 rs) i ≡ get_or (rates_of rs) i 0
+unfolding rate_from
+rate_next [] zero = refl
+rate_next [] (suc i) = refl
+rate_next (r ∷ rs) zero = refl
+rate_next (r ∷ rs) (suc i) = refl
 
--- lists that are found the same are equal
-pub same_true : (xs ys : List ℕ) → same xs ys ≡ true → xs ≡ ys
-unfolding same
-same_true [] [] e = refl
-same_true [] (y ∷ ys) e = let z : ◌≡◌ {A = ℕ} 0 1 = cc in absurd (omega arith)
-same_true (x ∷ xs) [] e = let z : ◌≡◌ {A = ℕ} 0 1 = cc in absurd (omega arith)
-same_true (x ∷ xs) (y ∷ ys) e =
-    let parts = and_parts (eqb x y) (same xs ys) e in
-    let heads = eqb-true x y parts.0 in
-    let tails = same_true xs ys parts.1 in
-    cc
+queries_next : (rs : List RoundConfig) (i q : ℕ) → get_or (queries_of (drop 1 rs)) i q ≡ get_or (queries_of rs) (suc i) q
+queries_next [] i q = refl
+queries_next (r ∷ rs) i q = refl
 
-pub same_apart : (xs ys : List ℕ) → (length xs ≡ length ys → ⊥) → false ≡ same xs ys
-unfolding same
-same_apart [] [] h = absurd (h refl)
-same_apart [] (y ∷ ys) h = refl
-same_apart (x ∷ xs) [] h = refl
-same_apart (x ∷ xs) (y ∷ ys) h = sym (and_right (eqb x y) _ (sym (same_apart xs ys (λ e. h (ap suc e)))))
+get_or-phases_from : (q l e : ℕ) (rs : List RoundConfig) (ks : List ℕ) (i : ℕ) (d : PhaseNumbers) → i < length ks
+    → get_or (phases_from q l e rs ks) i d ≡ phase_from q l e rs ks i
+unfolding phase_from rate_from
+get_or-phases_from q l e rs [] i d h = absurd (omega arith)
+get_or-phases_from q l e rs (k ∷ ks) zero d h = let same : l ≡ l - sum (take 0 (k ∷ ks)) = omega arith in cc
+get_or-phases_from q l e rs (k ∷ ks) (suc i) d h =
+    let before = get_or-phases_from q (l - k) (get_or (rates_of rs) 0 0) (drop 1 rs) ks i d (omega arith) in
+    let a : l - k - sum (take i ks) ≡ l - sum (k ∷ take i ks) = omega (arith, sum_by-cons (λ x. x) k (take i ks)) in
+    let b = rate_next rs i in
+    let c = queries_next rs i q in
+    before
+    ∙ ap (λ x. record { variables = x; rate = rate_from (get_or (rates_of rs) 0 0) (drop 1 rs) i; factor = get_or ks i 0; queries = get_or (queries_of (drop 1 rs)) i q }) a
+    ∙ ap (λ x. record { variables = l - sum (k ∷ take i ks); rate = x; factor = get_or ks i 0; queries = get_or (queries_of (drop 1 rs)) i q }) b
+    ∙ ap (λ x. record { variables = l - sum (k ∷ take i ks); rate = get_or (rates_of rs) i 0; factor = get_or ks i 0; queries = x }) c
+
+length-phases_from : (q l e : ℕ) (rs : List RoundConfig) (ks : List ℕ) → length (phases_from q l e rs ks) ≡ length ks
+length-phases_from q l e rs [] = refl
+length-phases_from q l e rs (k ∷ ks) = ap suc (length-phases_from q (l - k) (get_or (rates_of rs) 0 0) (drop 1 rs) ks)
+
+at_phase : (N : Numbers) (ks : List ℕ) (i : ℕ) → phase_from N.terminal.num_queries N.variables N.first_rate N.rounds ks i ≡ phase_at N ks i
+unfolding phase_from rate_from
+at_phase N ks zero = refl
+at_phase N ks (suc i) = refl
+
+pub phases_walked : (N : Numbers) (ks : List ℕ) → phases_from N.terminal.num_queries N.variables N.first_rate N.rounds ks ≡ phases N ks
+phases_walked N ks =
+    let all = phases_from N.terminal.num_queries N.variables N.first_rate N.rounds ks in
+    fill_by_all (phase_at N ks) all (length ks) (phase_at N ks 0)
+    (length-phases_from N.terminal.num_queries N.variables N.first_rate N.rounds ks)
+    (λ i h. get_or-phases_from N.terminal.num_queries N.variables N.first_rate N.rounds ks i (phase_at N ks 0) h ∙ at_phase N ks i)
+
+-- a phase that was read, where every domain is small
+pub domain_there : (N : Numbers) (ks : List ℕ) → ((i : ℕ) → i < length ks → log_domain N ks i ≤ 16) → (p : PhaseNumbers) (i : ℕ)
+    → i < length (phases N ks) → p ≡ get_or (phases N ks) i p → p.variables + p.rate ≤ 16
+domain_there N ks small p i h e =
+    let short : i < length ks = omega (arith, length-map-range_with_len (phase_at N ks) 0 (length ks)) in
+    let there : p ≡ phase_at N ks i = e ∙ get_or-map-range_with_len (phase_at N ks) 0 (length ks) i i p short (omega arith) in
+    subst (λ (x : PhaseNumbers). x.variables + x.rate ≤ 16) (sym there) (small i short)
+
+-- ---- each round with its phase
+pair_at : Numbers → List ℕ → ℕ → PhaseNumbers × RoundConfig
+pair_at N ks i = (phase_at N ks i, round_at N i)
+
+paired_all : (N : Numbers) (ks : List ℕ) → length N.rounds ≤ length ks → paired N ks ≡ map (pair_at N ks) (range_with_len 0 (length N.rounds))
+unfolding pair_at
+paired_all N ks h =
+    let count = length-map-range_with_len (phase_at N ks) 0 (length ks) in
+    fill_by_all (pair_at N ks) (paired N ks) (length N.rounds) (phase_at N ks 0, no_round)
+    (omega (arith, length-zip (phases N ks) N.rounds, count))
+    (λ i k. get_or-zip (phases N ks) N.rounds i (phase_at N ks 0, no_round) (omega (arith, count)) k
+    ∙ ap (λ (p : PhaseNumbers). (p, round_at N i)) (get_or-map-range_with_len (phase_at N ks) 0 (length ks) i i (phase_at N ks 0) (omega arith) (omega arith)))
+
+pub agree_each : (N : Numbers) (ks : List ℕ) → length N.rounds ≤ length ks → list_all pair_agrees (paired N ks) ≡ every (length N.rounds) (phase_agrees N ks)
+unfolding pair_at
+agree_each N ks h = ap (list_all pair_agrees) (paired_all N ks h) ∙ list_all-every pair_agrees (pair_at N ks) (length N.rounds)
+
+rate_there : (rs : List RoundConfig) (i : ℕ) → get_or (rates_of rs) i 0 ≡ (get_or rs i no_round).log_inv_rate
+rate_there [] i = refl
+rate_there (r ∷ rs) zero = refl
+rate_there (r ∷ rs) (suc i) = rate_there rs i
+
+pub follow_each : (N : Numbers) (ks : List ℕ) → length N.rounds ≤ length ks → list_all pair_follows (paired N ks) ≡ every (length N.rounds) (rate_follows N ks)
+unfolding pair_at
+follow_each N ks h =
+    ap (list_all pair_follows) (paired_all N ks h) ∙ list_all-every pair_follows (pair_at N ks) (length N.rounds)
+    ∙ every_same (length N.rounds) (λ i. pair_follows (pair_at N ks i)) (rate_follows N ks)
+    (λ i. ap (λ x. eqb x (rate N i + factor ks i - 1)) (sym (rate_there N.rounds i)))
+
+-- ---- the listed rates beside the rounds
+pub listed_same : (xs : List ℕ) (rs : List RoundConfig) → length xs ≡ length rs
+    → list_all (λ (p : ℕ × RoundConfig). eqb p.0 p.1.log_inv_rate) (zip xs rs) ≡ same xs (rates_of rs)
+listed_same [] [] h = refl
+listed_same [] (r ∷ rs) h = absurd (omega arith)
+listed_same (x ∷ xs) [] h = absurd (omega arith)
+listed_same (x ∷ xs) (r ∷ rs) h = ap (λ b. eqb x r.log_inv_rate && b) (listed_same xs rs (omega arith))
+
+pub listed_apart : (xs : List ℕ) (rs : List RoundConfig) → (length xs ≡ length rs → ⊥) → false ≡ same xs (rates_of rs)
+listed_apart [] [] h = absurd (h refl)
+listed_apart [] (r ∷ rs) h = refl
+listed_apart (x ∷ xs) [] h = refl
+listed_apart (x ∷ xs) (r ∷ rs) h = sym (and_right (eqb x r.log_inv_rate) _ (sym (listed_apart xs rs (λ e. h (ap suc e)))))

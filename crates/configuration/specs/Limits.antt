@@ -1,13 +1,13 @@
 -- Limits on the numbers given.
-use Rattle.std.specs.Prelude.{ℕ, Bool, true, ◌&&◌, leb, List, [], ◌∷◌, length, nat_le}
+use Rattle.std.specs.Prelude.{ℕ, Bool, ◌&&◌, leb, List, [], ◌∷◌, length, nat_le}
+use Rattle.std.specs.List.{list_all}
 use Rattle.parameters.specs.Schedule.{Strategy, constant, second, per_round}
 use Rattle.configuration.specs.Numbers.{Numbers}
 use Rattle.configuration.specs.declared.whir_parameters.RoundConfig.{RoundConfig}
 
 -- Every item of a list passes a test.
 abbrev pub all_by : {X : Type 0} → (X → Bool) → List X → Bool
-all_by test [] = true
-all_by test (x ∷ xs) = test x && all_by test xs
+all_by test xs = list_all test xs
 
 -- Each of the numbers is at most the bound.
 abbrev pub at_most : ℕ → List ℕ → Bool

@@ -1,5 +1,6 @@
 -- The phases of a run: what is left before each, its rate, its positions, and when the numbers belong together.
-use Rattle.std.specs.Prelude.{ℕ, zero, suc, ◌+◌, ◌-◌, ◌^◌, Bool, true, false, cond, ◌&&◌, ◌||◌, List, [], ◌∷◌, map, length, take, sum, ◌==◌, nat_le, slice_index, slice_index_or}
+use Rattle.std.specs.Prelude.{ℕ, zero, suc, ◌+◌, ◌-◌, ◌^◌, Bool, true, cond, ◌&&◌, ◌||◌, List, map, length, take, sum, ◌==◌, nat_le, slice_index, slice_index_or}
+use Rattle.std.specs.Cmp.Lexicographic.{pointwise}
 use Rattle.configuration.specs.Numbers.{Numbers}
 use Rattle.configuration.specs.declared.whir_parameters.RoundConfig.{RoundConfig}
 
@@ -9,11 +10,8 @@ every zero test = true
 every (suc n) test = every n test && test n
 
 -- The same numbers in the same order.
-unfoldable pub same : List ℕ → List ℕ → Bool
-same [] [] = true
-same [] (y ∷ ys) = false
-same (x ∷ xs) [] = false
-same (x ∷ xs) (y ∷ ys) = x == y && same xs ys
+abbrev pub same : List ℕ → List ℕ → Bool
+same xs ys = pointwise (λ x y. x == y) xs ys
 
 -- Phase i folds by factor i of the schedule ks.
 abbrev pub factor : List ℕ → ℕ → ℕ
@@ -97,16 +95,23 @@ abbrev pub query_draws : ℕ → ℕ → ℕ
 query_draws positions queries = cond (nat_le positions queries) 0 queries
 
 -- Queries of phase i: those of round i, and of the final phase.
+abbrev pub queries_of : List RoundConfig → List ℕ
+queries_of rs = map (λ (r : RoundConfig). r.num_queries) rs
+
 abbrev pub queries : Numbers → ℕ → ℕ
-queries N i = slice_index_or (map (λ (r : RoundConfig). r.num_queries) N.rounds) i N.terminal.num_queries
+queries N i = slice_index_or (queries_of N.rounds) i N.terminal.num_queries
 
 -- Draws of phase i.
 abbrev pub draws : Numbers → List ℕ → ℕ → ℕ
 draws N ks i = query_draws (2 ^ log_positions_of N ks i) (queries N i)
 
 -- Rows that are opened: those drawn, and every one where nothing is drawn.
+abbrev pub rows_opened : ℕ → ℕ → ℕ
+rows_opened positions draws = cond (draws == 0) positions draws
+
+-- Rows that so many queries open among 2 ^ log positions.
 abbrev pub rows_at : ℕ → ℕ → ℕ
-rows_at log q = cond (query_draws (2 ^ log) q == 0) (2 ^ log) (query_draws (2 ^ log) q)
+rows_at log q = rows_opened (2 ^ log) (query_draws (2 ^ log) q)
 
 -- Rows that phase i opens.
 abbrev pub rows : Numbers → List ℕ → ℕ → ℕ

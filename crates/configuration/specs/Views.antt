@@ -1,8 +1,9 @@
 -- Numbers that follow from a configuration's.
-use Rattle.std.specs.Prelude.{ℕ, suc, ◌+◌, ◌-◌, ◌^◌, max, cond, map, length, Some, None, fold, Option, nat_lt}
+use Rattle.std.specs.Prelude.{◌≡◌, ℕ, suc, ◌+◌, ◌-◌, ◌^◌, ◌<◌, max, cond, map, length, Some, None, Ok, Err, fold, Option, Result, nat_lt}
 use Rattle.configuration.specs.declared.whir_parameters.RoundConfig.{RoundConfig}
 use Rattle.configuration.specs.declared.whir_parameters.SecurityAssumption.{SecurityAssumption}
 use Rattle.configuration.specs.declared.whir_parameters.SecurityAssumption.TheVariants.{UniqueDecoding, JohnsonBound, CapacityBound}
+use Rattle.configuration.specs.declared.whir_parameters.UnknownSoundness.{UnknownSoundness}
 use Rattle.configuration.specs.Numbers.{Numbers}
 use Rattle.configuration.specs.Phases.{left, rate, factor, log_domain, log_positions_of}
 
@@ -11,6 +12,11 @@ abbrev pub kind_number : SecurityAssumption → ℕ
 kind_number UniqueDecoding = 0
 kind_number JohnsonBound = 1
 kind_number CapacityBound = 2
+
+-- What a number names: the kind of that number, or none above 2.
+abbrev pub NamesKind : ℕ → Result SecurityAssumption UnknownSoundness → Type 0
+NamesKind n (Ok kind) = kind_number kind ≡ n
+NamesKind n (Err e) = (2 < n) × (e.0 ≡ n)
 
 -- How many bits the domain shrinks by in a round: what the fold and the rates leave of it.
 abbrev pub reduction : Numbers → ℕ → Option ℕ

@@ -1,23 +1,21 @@
 // The checks on the numbers of a configuration, one definition each.
-ghost use Rattle.std.specs.Prelude.{◌≡◌, ℕ, ◌+◌, ◌<◌, ◌≤◌, true, ◌&&◌, length, nat_le};
+ghost use Rattle.std.specs.Prelude.{◌≡◌, ◌+◌, ◌-◌, ◌^◌, ◌≤◌, true, cond, ◌&&◌, length, Some, None, nat_le, nat_lt, slice_index};
+ghost use Rattle.std.specs.List.{list_all};
 ghost use Rattle.parameters.specs.Replies.{strategy_of};
 ghost use Rattle.configuration.specs.Numbers.{numbers_of};
 ghost use Rattle.configuration.specs.Limits.{at_most, all_by, factors_of, sizes_within, difficulties_within, others_within, lists_within, round_within, within_limits};
-ghost use Rattle.configuration.specs.Phases.{every, same, rate, rates_of, log_domain, log_positions_of, factor, round_agrees, domain_fits, phase_agrees, rate_follows, rates_agree, consistent, query_draws, queries, draws, rows_at, openings_within};
+ghost use Rattle.configuration.specs.Phases.{every, same, rate, rates, rates_of, round_agrees, domain_fits, rates_agree, consistent, query_draws, queries, rows_opened, rows_at, openings_within};
+ghost use Rattle.configuration.specs.Walk.{pair_agrees, pair_follows, paired};
 
-use crate::whir_parameters::{RoundConfig, WhirNumbers};
+use crate::walk::PhaseNumbers;
+use crate::whir_parameters::{RoundConfig, SecurityAssumption, WhirNumbers};
 use parameters::folding::{FoldingFactor, variables_left};
 
 // Each of the numbers is at most the bound.
 fn all_at_most(numbers: &[usize], bound: usize) -> bool
     ensures { result ≡ at_most bound numbers.now }
 {
-    for number in numbers {
-        if *number > bound {
-            return false;
-        }
-    }
-    true
+    numbers.iter().all(|number| *number <= bound)
 }
 
 // How many factors a strategy names.
@@ -42,6 +40,7 @@ fn factors_at_most(strategy: &FoldingFactor, bound: usize) -> bool
     }
 }
 
+#[tactic(auto, unfolding(crate::specs::Limits::round_within))]
 fn round_within(r: &RoundConfig) -> bool
     ensures { result ≡ round_within r.now }
 {
@@ -60,42 +59,15 @@ fn round_within(r: &RoundConfig) -> bool
 fn rounds_within(rounds: &[RoundConfig]) -> bool
     ensures { result ≡ all_by round_within rounds.now }
 {
-    for round in rounds {
-        if !round_within(round) {
-            return false;
-        }
-    }
-    true
-}
-
-// The same numbers in the same order.
-fn are_same(xs: &[usize], ys: &[usize]) -> bool
-    ensures { result ≡ same xs.now ys.now }
-{
-    if xs.len() != ys.len() {
-        return false;
-    }
-    for (i, x) in xs.iter().enumerate() {
-        if *x != ys[i] {
-            return false;
-        }
-    }
-    true
+    rounds.iter().all(round_within)
 }
 
 // The listed rates are those of the rounds.
 fn rates_listed(listed: &[usize], rounds: &[RoundConfig]) -> bool
     ensures { result ≡ same listed.now (rates_of rounds.now) }
 {
-    if listed.len() != rounds.len() {
-        return false;
-    }
-    for (i, round) in rounds.iter().enumerate() {
-        if listed[i] != round.log_inv_rate {
-            return false;
-        }
-    }
-    true
+    let mut pairs = listed.iter().zip(rounds);
+    listed.len() == rounds.len() && pairs.all(|(rate, round)| *rate == round.log_inv_rate)
 }
 
 // How many positions are drawn: none where the queries cover all there are.
@@ -109,20 +81,23 @@ pub fn query_draws(folded_domain_size: usize, num_queries: usize) -> usize
     }
 }
 
-// The numbers of a round are those of its phase.
-fn agrees(round: &RoundConfig, left: usize, rate: usize, factor: usize) -> bool
-    requires { left + rate ≤ 16 }
-    ensures { result ≡ round_agrees left rate factor round.now }
+// Rows that are opened: those drawn, and every one where nothing is drawn.
+pub fn rows_opened(positions: usize, draws: usize) -> usize
+    ensures { result ≡ rows_opened positions draws }
 {
-    let log = left + rate;
-    let fold = round.num_variables == left.saturating_sub(factor) && round.folding_factor == factor;
-    let domain = round.domain_size == 1 << log;
-    let folded = round.log_folded_domain_size == log.saturating_sub(factor);
-    fold && domain && folded && round.log_inv_rate <= rate.saturating_add(factor)
+    if draws == 0 { positions } else { draws }
+}
+
+// Two to the power, where there is room for it.
+fn power_of_two(log: usize) -> Option<usize>
+    ensures { result ≡ cond (nat_lt log 64) (Some (2 ^ log)) None }
+{
+    if log < 64 { Some(1 << log) } else { None }
 }
 
 impl WhirNumbers {
     // Every number given is within its limits.
+    #[tactic(auto, unfolding(crate::specs::Limits::within_limits))]
     pub fn within_limits(&self) -> bool
         ensures { result ≡ within_limits (numbers_of self.now) }
     {
@@ -142,7 +117,8 @@ impl WhirNumbers {
             factor_count(&self.folding_factor),
         ];
         let small = all_at_most(&sizes, 16);
-        self.num_variables >= 1 && small && self.domain_id.len() <= 32 && self.soundness <= 2
+        let known = SecurityAssumption::try_from(self.soundness).is_ok();
+        self.num_variables >= 1 && small && self.domain_id.len() <= 32 && known
     }
 
     fn difficulties_within(&self) -> bool
@@ -189,144 +165,146 @@ impl WhirNumbers {
     pub fn rate_before(&self, phase: usize) -> usize
         ensures { result ≡ rate (numbers_of self.now) phase }
     {
-        if phase == 0 {
-            return self.starting_log_inv_rate;
+        match phase.checked_sub(1) {
+            Some(round) => self.rate_after(round),
+            None => self.starting_log_inv_rate,
         }
-        let round = phase - 1;
-        if round < self.round_parameters.len() {
-            self.round_parameters[round].log_inv_rate
-        } else {
-            0
-        }
+    }
+
+    // Log of the inverse rate after a round; 0 past the last.
+    fn rate_after(&self, round: usize) -> usize
+        ensures { result ≡ slice_index (rates (numbers_of self.now)) round }
+    {
+        self.round_parameters
+            .get(round)
+            .map_or(0, |round| round.log_inv_rate)
     }
 
     // Queries of a phase: those of its round, or of the final phase.
     pub fn queries_of(&self, phase: usize) -> usize
         ensures { result ≡ queries (numbers_of self.now) phase }
     {
-        if phase < self.round_parameters.len() {
-            self.round_parameters[phase].num_queries
-        } else {
-            self.terminal.num_queries
-        }
-    }
-
-    // Every domain fits the capacity.
-    fn domains_fit(&self, schedule: &[usize]) -> bool
-        ensures { result ≡ every (length schedule.now) (domain_fits (numbers_of self.now) schedule.now) }
-    {
-        let mut left = self.num_variables;
-        for (i, factor) in schedule.iter().enumerate() {
-            let rate = self.rate_before(i);
-            if rate > self.max_log_domain_size || left > self.max_log_domain_size - rate {
-                return false;
-            }
-            left = left.saturating_sub(*factor);
-        }
-        true
+        self.round_parameters
+            .get(phase)
+            .map_or(self.terminal.num_queries, |round| round.num_queries)
     }
 }
 
-impl WhirNumbers {
-    // Each round's numbers are those of its phase.
-    fn rounds_agree(&self, schedule: &[usize]) -> bool
-        requires lengths { length self.now.round_parameters.items + 1 ≡ length schedule.now }
-        requires domains { (i : ℕ) → i < length schedule.now → log_domain (numbers_of self.now) schedule.now i ≤ 16 }
-        ensures { result ≡ every (length self.now.round_parameters.items) (phase_agrees (numbers_of self.now) schedule.now) }
+impl PhaseNumbers {
+    // The domain before the phase fits the capacity.
+    fn fits(self, capacity: usize) -> bool
+        ensures { result ≡ nat_le (self.variables + self.rate) capacity }
     {
-        let mut left = self.num_variables;
-        for i in 0..self.round_parameters.len() {
-            let round = self.round_parameters[i];
-            if !agrees(&round, left, self.rate_before(i), schedule[i]) {
-                return false;
-            }
-            left = left.saturating_sub(schedule[i]);
+        self.rate <= capacity && self.variables <= capacity - self.rate
+    }
+
+    // The numbers of a round are those of the phase.
+    #[tactic(auto, unfolding(crate::specs::Phases::round_agrees))]
+    fn agrees(self, round: &RoundConfig) -> bool
+        ensures { result ≡ pair_agrees (self, round.now) }
+    {
+        let log = self.variables.saturating_add(self.rate);
+        if power_of_two(log) != Some(round.domain_size) {
+            return false;
         }
-        true
+        let left = self.variables.saturating_sub(self.factor);
+        let fold = round.num_variables == left && round.folding_factor == self.factor;
+        let folded = round.log_folded_domain_size == log.saturating_sub(self.factor);
+        fold && folded && round.log_inv_rate <= self.rate.saturating_add(self.factor)
+    }
+
+    // The rate of a round is one less than the phase's domain allows.
+    fn is_followed_by(self, round: &RoundConfig) -> bool
+        ensures { result ≡ pair_follows (self, round.now) }
+    {
+        let allowed = self.rate as u128 + self.factor as u128;
+        round.log_inv_rate as u128 == allowed.saturating_sub(1)
+    }
+
+    // The phase folds at most 10 variables and opens at most 1,024 rows.
+    fn opens_few(self) -> bool
+        requires { self.variables + self.rate ≤ 16 }
+        ensures { result ≡ (nat_le self.factor 10 && nat_le (rows_at (self.variables + self.rate - self.factor) self.queries) 1024) }
+    {
+        let positions = 1 << (self.variables + self.rate).saturating_sub(self.factor);
+        let rows = rows_opened(positions, query_draws(positions, self.queries));
+        self.factor <= 10 && rows <= 1_024
+    }
+}
+
+// Numbers within their limits, with the schedule of their strategy.
+#[derive(Clone, Copy)]
+pub(crate) struct Planned<'a> {
+    pub(crate) numbers: &'a WhirNumbers,
+    pub(crate) schedule: &'a [usize],
+    ghost limited: { within_limits (numbers_of numbers.now) ≡ true },
+}
+
+impl Planned<'_> {
+    // Every domain fits the capacity.
+    fn domains_fit(&self) -> bool
+        ensures { result ≡ every (length self.now.schedule.now) (domain_fits (numbers_of self.now.numbers.now) self.now.schedule.now) }
+    {
+        let capacity = self.numbers.max_log_domain_size;
+        self.numbers
+            .phases(self.schedule)
+            .all(|phase| phase.fits(capacity))
+    }
+
+    // Each round's numbers are those of its phase.
+    fn rounds_agree(&self) -> bool
+        ensures { result ≡ list_all pair_agrees (paired (numbers_of self.now.numbers.now) self.now.schedule.now) }
+    {
+        self.numbers
+            .phases(self.schedule)
+            .zip(&self.numbers.round_parameters)
+            .all(|(phase, round)| phase.agrees(round))
     }
 
     // Each rate is one less than its phase's domain allows.
-    fn rates_follow(&self, schedule: &[usize]) -> bool
-        requires { length self.now.round_parameters.items + 1 ≡ length schedule.now }
-        ensures { result ≡ every (length self.now.round_parameters.items) (rate_follows (numbers_of self.now) schedule.now) }
+    fn rates_follow(&self) -> bool
+        ensures { result ≡ list_all pair_follows (paired (numbers_of self.now.numbers.now) self.now.schedule.now) }
     {
-        for i in 0..self.round_parameters.len() {
-            let allowed = self.rate_before(i) as u128 + schedule[i] as u128;
-            if self.rate_before(i + 1) as u128 != allowed.saturating_sub(1) {
-                return false;
-            }
-        }
-        true
+        self.numbers
+            .phases(self.schedule)
+            .zip(&self.numbers.round_parameters)
+            .all(|(phase, round)| phase.is_followed_by(round))
     }
-}
 
-impl WhirNumbers {
     // The rates agree with the rounds, listed or following the folds.
-    fn rates_agree(&self, schedule: &[usize]) -> bool
-        requires { length self.now.round_parameters.items + 1 ≡ length schedule.now }
-        ensures { result ≡ rates_agree (numbers_of self.now) schedule.now }
+    fn rates_agree(&self) -> bool
+        requires { length self.now.numbers.now.round_parameters.items + 1 ≡ length self.now.schedule.now }
+        ensures { result ≡ rates_agree (numbers_of self.now.numbers.now) self.now.schedule.now }
     {
-        let listed = rates_listed(
-            self.round_log_inv_rates.as_slice(),
-            self.round_parameters.as_slice(),
-        );
-        listed || (self.round_log_inv_rates.is_empty() && self.rates_follow(schedule))
+        let listed = self.numbers.round_log_inv_rates.as_slice();
+        rates_listed(listed, self.numbers.round_parameters.as_slice())
+            || (listed.is_empty() && self.rates_follow())
     }
 
     // The numbers belong together with the schedule of their strategy.
-    pub(crate) fn is_consistent(&self, schedule: &[usize]) -> bool
-        requires { within_limits (numbers_of self.now) ≡ true }
-        ensures { result ≡ consistent (numbers_of self.now) schedule.now }
+    pub(crate) fn is_consistent(&self) -> bool
+        ensures { result ≡ consistent (numbers_of self.now.numbers.now) self.now.schedule.now }
     {
-        if !are_same(self.folding_schedule.as_slice(), schedule) {
+        if self.numbers.folding_schedule.as_slice() != self.schedule {
             return false;
         }
-        if self.round_parameters.len() + 1 != schedule.len() {
+        if self.numbers.round_parameters.len() + 1 != self.schedule.len() {
             return false;
         }
-        if !self.domains_fit(schedule) {
+        if !self.domains_fit() || !self.rounds_agree() {
             return false;
         }
-        if !self.rounds_agree(schedule) {
-            return false;
-        }
-        if self.final_sumcheck_rounds != variables_left(schedule, self.num_variables) {
-            return false;
-        }
-        self.rates_agree(schedule)
+        let last = variables_left(self.schedule, self.numbers.num_variables);
+        self.numbers.final_sumcheck_rounds == last && self.rates_agree()
     }
 
     // No phase folds or opens too much.
-    pub(crate) fn openings_within(&self, schedule: &[usize]) -> bool
-        requires { (i : ℕ) → i < length schedule.now → log_domain (numbers_of self.now) schedule.now i ≤ 16 }
-        ensures { result ≡ openings_within (numbers_of self.now) schedule.now }
+    pub(crate) fn openings_within(&self) -> bool
+        requires { consistent (numbers_of self.now.numbers.now) self.now.schedule.now ≡ true }
+        ensures { result ≡ openings_within (numbers_of self.now.numbers.now) self.now.schedule.now }
     {
-        let mut left = self.num_variables;
-        for (i, factor) in schedule.iter().enumerate() {
-            let log = (left + self.rate_before(i)).saturating_sub(*factor);
-            if !opening_within(*factor, log, self.queries_of(i)) {
-                return false;
-            }
-            left = left.saturating_sub(*factor);
-        }
-        true
+        self.numbers
+            .phases(self.schedule)
+            .all(|phase| phase.opens_few())
     }
-}
-
-// A phase folds at most 10 variables and opens at most 1,024 rows.
-fn opening_within(factor: usize, log_positions: usize, num_queries: usize) -> bool
-    requires { log_positions ≤ 16 }
-    ensures { result ≡ (nat_le factor 10 && nat_le (rows_at log_positions num_queries) 1024) }
-{
-    factor <= 10 && rows_of(log_positions, num_queries) <= 1_024
-}
-
-// Rows that a phase opens: those drawn, and every one where nothing is drawn.
-fn rows_of(log_positions: usize, num_queries: usize) -> usize
-    requires { log_positions ≤ 16 }
-    ensures { result ≡ rows_at log_positions num_queries }
-{
-    let positions = 1 << log_positions;
-    let draws = query_draws(positions, num_queries);
-    if draws == 0 { positions } else { draws }
 }

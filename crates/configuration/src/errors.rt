@@ -4,6 +4,8 @@ ghost use Rattle.configuration.specs.Faults.{of_schedule};
 ghost use Rattle.configuration.specs.declared.errors.WhirConfigError.TheVariants.{Folding};
 
 use parameters::errors::{FoldingFactorError, ScheduleError};
+use std::error::Error;
+use std::fmt;
 
 #[derive(Clone, Copy, PartialEq, Eq, Debug)]
 pub enum WhirConfigError {
@@ -19,6 +21,20 @@ pub enum WhirConfigError {
     // There was no memory for the schedule.
     OutOfMemory,
 }
+
+// A refusal as it is read out: its number, its name and its values.
+impl fmt::Display for WhirConfigError {
+    fn fmt<W: fmt::Write>(&self, f: &mut fmt::Formatter<W>) -> fmt::Result {
+        match self {
+            WhirConfigError::Limit => write!(f, "1 Limit"),
+            WhirConfigError::Folding(fault) => write!(f, "2 Folding {fault}"),
+            WhirConfigError::Inconsistent => write!(f, "3 Inconsistent"),
+            WhirConfigError::OutOfMemory => write!(f, "out of memory"),
+        }
+    }
+}
+
+impl Error for WhirConfigError {}
 
 impl From<FoldingFactorError> for WhirConfigError {
     ghost from_gives = { λ e r. r ≡ Folding e };

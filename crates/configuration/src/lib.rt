@@ -5,5 +5,6 @@ pub mod checks;
 pub mod errors;
 pub mod making;
 pub mod phases;
+pub mod walk;
 pub mod whir;
 pub mod whir_parameters;

@@ -1,25 +1,23 @@
 // Making a checked configuration.
-ghost use Rattle.std.specs.Prelude.{◌≡◌, true};
 ghost use Rattle.configuration.specs.Numbers.{numbers_of};
-ghost use Rattle.configuration.specs.Limits.{within_limits};
 ghost use Rattle.configuration.specs.Verdicts.{fault_of_phases, ConfigurationsPhased};
 ghost use Rattle.configuration.specs.Faults.{said, Answers, Keeps, Tells};
 
+use crate::checks::Planned;
 use crate::errors::WhirConfigError;
 use crate::whir::WhirConfig;
 use crate::whir_parameters::WhirNumbers;
 use std::alloc::Global;
 
-impl WhirNumbers {
+impl Planned<'_> {
     // Consistency with the schedule, then the limits on factors and rows.
-    fn check_phases(&self, schedule: &[usize]) -> Result<(), WhirConfigError>
-        requires { within_limits (numbers_of self.now) ≡ true }
-        ensures { Tells result (fault_of_phases (numbers_of self.now) schedule.now) }
+    fn check(&self) -> Result<(), WhirConfigError>
+        ensures { Tells result (fault_of_phases (numbers_of self.now.numbers.now) self.now.schedule.now) }
     {
-        if !self.is_consistent(schedule) {
+        if !self.is_consistent() {
             return Err(WhirConfigError::Inconsistent);
         }
-        if !self.openings_within(schedule) {
+        if !self.openings_within() {
             return Err(WhirConfigError::Limit);
         }
         Ok(())
@@ -38,14 +36,16 @@ impl WhirConfig {
         let schedule = numbers
             .folding_factor
             .compute_folding_schedule(heap, numbers.num_variables)?;
-        numbers.check_phases(schedule.as_slice())?;
+        let planned = Planned {
+            numbers: &numbers,
+            schedule: schedule.as_slice(),
+        };
+        planned.check()?;
         Ok(WhirConfig { numbers })
     }
 }
 
 // Every configuration without a fault has its phases in order.
-pub fn configurations_phased() -> u8
+pub fn configurations_phased()
     ensures { ConfigurationsPhased }
-{
-    0
-}
+{}

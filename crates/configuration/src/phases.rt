@@ -1,9 +1,11 @@
 // What a checked configuration says of its phases. Nothing here panics: a round that is not there is answered by `None`.
-ghost use Rattle.std.specs.Prelude.{◌≡◌, ◌+◌, ◌-◌, ◌^◌, ◌<◌, max, map, length, take, fold, sum};
+ghost use Rattle.std.specs.Prelude.{◌≡◌, ◌+◌, ◌^◌, ◌≤◌, length, take, sum};
 ghost use Rattle.std.specs.List.{slice_get};
 ghost use Rattle.configuration.specs.Numbers.{numbers_of};
-ghost use Rattle.configuration.specs.Views.{kind_number, reduction, hardest_of, hardest, final_round};
+ghost use Rattle.configuration.specs.Views.{kind_number, reduction, hardest, final_round};
+ghost use Rattle.configuration.specs.Walk.{phase_at, phases_left, phases};
 
+use crate::walk::{PhaseNumbers, Phases};
 use crate::whir::WhirConfig;
 use crate::whir_parameters::{ProtocolParameters, RoundConfig, SecurityAssumption};
 
@@ -12,13 +14,7 @@ impl WhirConfig {
     pub fn soundness_type(&self) -> SecurityAssumption
         ensures { kind_number result ≡ self.now.numbers.soundness }
     {
-        if self.numbers.soundness == 0 {
-            SecurityAssumption::UniqueDecoding
-        } else if self.numbers.soundness == 1 {
-            SecurityAssumption::JohnsonBound
-        } else {
-            SecurityAssumption::CapacityBound
-        }
+        SecurityAssumption::try_from(self.numbers.soundness).unwrap()
     }
 
     // User-facing parameters.
@@ -41,11 +37,8 @@ impl WhirConfig {
     pub fn starting_domain_size(&self) -> usize
         ensures { result ≡ 2 ^ (self.now.numbers.num_variables + self.now.numbers.starting_log_inv_rate) }
     {
-        power_of_two(
-            self.numbers
-                .num_variables
-                .saturating_add(self.numbers.starting_log_inv_rate),
-        )
+        let log_size = self.numbers.num_variables + self.numbers.starting_log_inv_rate;
+        1 << log_size
     }
 
     // Returns the number of intermediate WHIR rounds.
@@ -59,12 +52,10 @@ impl WhirConfig {
     pub fn rs_reduction_factor(&self, round: usize) -> Option<usize>
         ensures { result ≡ reduction (numbers_of self.now.numbers) round }
     {
-        if round >= self.n_rounds() {
-            return None;
-        }
-        let factor = self.round_folding_factor(round).unwrap_or(0);
+        let after = self.numbers.round_parameters.get(round)?.log_inv_rate;
+        let factor = self.round_folding_factor(round)?;
         let before = self.numbers.rate_before(round).saturating_add(factor);
-        Some(before.saturating_sub(self.numbers.rate_before(round + 1)))
+        Some(before.saturating_sub(after))
     }
 
     // Largest proof-of-work difficulty (in bits) demanded by any phase.
@@ -76,85 +67,63 @@ impl WhirConfig {
             .starting_folding_pow_bits
             .max(self.numbers.terminal.pow_bits)
             .max(self.numbers.final_folding_pow_bits);
-        hardest_round(self.numbers.round_parameters.as_slice(), outer)
+        self.numbers
+            .round_parameters
+            .iter()
+            .map(|round| round.pow_bits.max(round.folding_pow_bits))
+            .fold(outer, usize::max)
     }
 
     // Retrieves the concrete derived folding factor for a given phase.
     pub fn round_folding_factor(&self, round: usize) -> Option<usize>
         ensures { result ≡ slice_get self.now.numbers.folding_schedule.items round }
     {
-        if round < self.numbers.folding_schedule.len() {
-            Some(self.numbers.folding_schedule[round])
-        } else {
-            None
-        }
+        self.numbers.folding_schedule.get(round).copied()
     }
 
     // Total variables folded through the given phase, inclusive; all of them past the last.
     pub fn total_folded_through(&self, round: usize) -> usize
         ensures { result ≡ sum (take (round + 1) self.now.numbers.folding_schedule.items) }
     {
-        let left = variables_before(
-            self.numbers.folding_schedule.as_slice(),
-            self.numbers.num_variables,
-            round.saturating_add(1),
-        );
-        self.numbers.num_variables.saturating_sub(left)
+        self.numbers
+            .folding_schedule
+            .iter()
+            .take(round.saturating_add(1))
+            .sum()
+    }
+
+    // The phases in turn.
+    pub fn phases(&self) -> Phases<'_>
+        ensures { phases_left result ≡ phases (numbers_of self.now.numbers) self.now.numbers.folding_schedule.items }
+    {
+        self.numbers.phases(&self.numbers.folding_schedule)
     }
 
     // The final phase, as a round.
     pub fn final_round_config(&self) -> RoundConfig
         ensures { result ≡ final_round (numbers_of self.now.numbers) }
     {
-        let last = self.n_rounds();
-        let left = variables_before(
-            self.numbers.folding_schedule.as_slice(),
-            self.numbers.num_variables,
-            last,
-        );
-        let factor = self.round_folding_factor(last).unwrap_or(0);
-        let rate = self.numbers.rate_before(last);
+        let last = self.final_phase();
+        let log = last.variables + last.rate;
         RoundConfig {
             pow_bits: self.numbers.terminal.pow_bits,
             folding_pow_bits: self.numbers.final_folding_pow_bits,
             num_queries: self.numbers.terminal.num_queries,
             ood_samples: 0,
-            num_variables: left.saturating_sub(factor),
-            folding_factor: factor,
-            log_inv_rate: rate,
-            domain_size: power_of_two(left.saturating_add(rate)),
-            log_folded_domain_size: left.saturating_add(rate).saturating_sub(factor),
+            num_variables: last.variables - last.factor,
+            folding_factor: last.factor,
+            log_inv_rate: last.rate,
+            domain_size: 1 << log,
+            log_folded_domain_size: log - last.factor,
         }
     }
-}
 
-// Two to the power, where there is room for it.
-fn power_of_two(log: usize) -> usize
-    ensures { log < 64 → result ≡ 2 ^ log }
-{
-    if log < 64 { 1 << log } else { 0 }
-}
-
-// Variables that are left before a phase.
-fn variables_before(schedule: &[usize], num_variables: usize, phase: usize) -> usize
-    ensures { result ≡ num_variables - sum (take phase schedule.now) }
-{
-    let mut left = num_variables;
-    for (i, factor) in schedule.iter().enumerate() {
-        if i < phase {
-            left = left.saturating_sub(*factor);
-        }
+    // The final phase: it comes after as many phases as there are rounds.
+    fn final_phase(&self) -> PhaseNumbers
+        ensures phase { result ≡ phase_at (numbers_of self.now.numbers) self.now.numbers.folding_schedule.items (length self.now.numbers.round_parameters.items) }
+        ensures domain { result.variables + result.rate ≤ 16 }
+        ensures fold { result.factor ≤ result.variables }
+    {
+        self.phases().nth(self.n_rounds()).unwrap()
     }
-    left
-}
-
-// The largest of a number and the difficulties of the rounds.
-fn hardest_round(rounds: &[RoundConfig], outer: usize) -> usize
-    ensures { result ≡ fold max outer (map hardest_of rounds.now) }
-{
-    let mut most = outer;
-    for round in rounds {
-        most = most.max(round.pow_bits.max(round.folding_pow_bits));
-    }
-    most
 }

@@ -1,5 +1,7 @@
 // What a configuration is made of: the numbers as they are given.
 use parameters::folding::FoldingFactor;
+use std::error::Error;
+use std::fmt;
 
 // The type of soundness guarantee, by its number: 0, 1 and 2.
 #[derive(Clone, Copy, PartialEq, Eq, Debug)]
@@ -9,8 +11,37 @@ pub enum SecurityAssumption {
     CapacityBound,
 }
 
+// A number that names no soundness guarantee.
+#[derive(Clone, Copy, PartialEq, Eq, Debug)]
+pub struct UnknownSoundness(pub usize);
+
+impl TryFrom<usize> for SecurityAssumption {
+    ghost use Rattle.configuration.specs.Views.{NamesKind};
+
+    type Error = UnknownSoundness;
+
+    ghost try_from_gives = { NamesKind };
+
+    fn try_from(number: usize) -> Result<Self, UnknownSoundness> {
+        match number {
+            0 => Ok(SecurityAssumption::UniqueDecoding),
+            1 => Ok(SecurityAssumption::JohnsonBound),
+            2 => Ok(SecurityAssumption::CapacityBound),
+            _ => Err(UnknownSoundness(number)),
+        }
+    }
+}
+
+impl fmt::Display for UnknownSoundness {
+    fn fmt<W: fmt::Write>(&self, f: &mut fmt::Formatter<W>) -> fmt::Result {
+        write!(f, "no soundness guarantee has the number {}", self.0)
+    }
+}
+
+impl Error for UnknownSoundness {}
+
 // Configuration parameters for WHIR proofs, as a checked configuration shows them.
-#[derive(Drop)]
+#[derive(Clone, Copy, Debug)]
 pub struct ProtocolParameters<'a> {
     // Initial logarithmic inverse rate for the first committed codeword.
     pub starting_log_inv_rate: usize,
@@ -73,7 +104,7 @@ pub struct TerminalBudget {
 }
 
 // The numbers that a configuration is to be made of, as they are given: nothing is known of them yet.
-#[derive(Drop)]
+#[derive(Drop, Debug)]
 pub struct WhirNumbers {
     // Number of variables in the original multilinear polynomial.
     pub num_variables: usize,

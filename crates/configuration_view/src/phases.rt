@@ -1,4 +1,5 @@
 // What is shown of a phase, and of the buffers.
+use std::fmt;
 
 // One phase of a run.
 #[derive(Clone, Copy, PartialEq, Eq, Debug)]
@@ -17,6 +18,16 @@ pub struct Phase {
 
     // Positions that are drawn.
     pub draws: usize,
+}
+
+impl fmt::Display for Phase {
+    fn fmt<W: fmt::Write>(&self, f: &mut fmt::Formatter<W>) -> fmt::Result {
+        write!(
+            f,
+            "variables {} rate {} log_positions {} rows {} draws {}",
+            self.variables, self.rate, self.log_positions, self.rows, self.draws
+        )
+    }
 }
 
 // How many places each buffer of a verification needs.
@@ -38,8 +49,18 @@ pub struct Buffers {
     pub positions: usize,
 }
 
+impl fmt::Display for Buffers {
+    fn fmt<W: fmt::Write>(&self, f: &mut fmt::Formatter<W>) -> fmt::Result {
+        write!(
+            f,
+            "point {} pair {} fold {} notes {} positions {}",
+            self.point, self.pair, self.fold, self.notes, self.positions
+        )
+    }
+}
+
 // The phases of a configuration and its buffers.
-#[derive(Drop)]
+#[derive(Drop, PartialEq, Eq, Debug)]
 pub struct View {
     pub phases: Vec<Phase>,
     pub buffers: Buffers,

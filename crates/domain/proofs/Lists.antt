@@ -1,9 +1,22 @@
 -- Lists of distinct elements. Assumes nothing.
-use Rattle.std.proofs.Common.{◌≡◌, ℕ, zero, suc, ◌+◌, ◌<◌, ◌≤◌, List, [], ◌∷◌, length, get_or, take, drop, sym, refl, ap, ◌∙◌, subst, arith}
-use Rattle.std.specs.List.{AllByRecursion}
-use Rattle.std.proofs.lemmas.List.{drop_more, drop_all, take_all}
-use Rattle.std.proofs.ByRecursion.{All-get_or, All-more}
+use Rattle.std.proofs.Common.{◌≡◌, ℕ, zero, suc, ◌-◌, ◌*◌, ◌^◌, ◌<◌, ◌≤◌, Bool, true, false, ◌||◌, ◌⊎◌, ◌↔◌, List, [], ◌∷◌, length, get_or, take, drop, sym, refl, ap, ◌∙◌, subst, inl, inr, ⊎_elim, arith, pow_mono}
+use native.Mathlib.Nat.{pow-succ'}
+use native.Mathlib.Decide.{dec_lt}
+use Rattle.std.specs.List.{AllByRecursion, list_any}
+use Rattle.std.proofs.Math.Pow.{pow-lt}
+use Rattle.std.proofs.lemmas.Bool.{both_ways}
+use Rattle.std.proofs.lemmas.List.{take_all}
+use Rattle.std.proofs.ByRecursion.{All-get_or}
 use Rattle.ring.specs.Polynomials.{Distinct}
+use Rattle.domain.proofs.Orders.{pick}
+
+or_false : (a b : Bool) → (a || b) ≡ false → (a ≡ false) × (b ≡ false)
+or_false true b e = absurd (both_ways true e refl)
+or_false false b e = (refl, e)
+
+or_true : (a b : Bool) → (a || b) ≡ true → (a ≡ true) ⊎ (b ≡ true)
+or_true true b e = inl refl
+or_true false b e = inr e
 
 module _ {A : Type 0} where
   -- different places hold different elements
@@ -14,32 +27,45 @@ module _ {A : Type 0} where
   places_apart (x ∷ l) d u (suc i) zero hi hj e = absurd (All-get_or (λ y. x ≡ y → ⊥) l i d (omega arith) u.0 (sym e))
   places_apart (x ∷ l) d u (suc i) (suc j) hi hj e = ap suc (places_apart l d u.1 i j (omega arith) (omega arith) e)
 
-  pub distinct_drop : (n : ℕ) (l : List A) → Distinct l → Distinct (drop n l)
-  distinct_drop zero l u = u
-  distinct_drop (suc n) [] u = u
-  distinct_drop (suc n) (x ∷ l) u = distinct_drop n l u.1
+  -- `==` decides equality
+  module _ (eq : A → A → Bool) (same : (x y : A) → (eq x y ≡ true) ↔ (x ≡ y)) where
+    -- x is none of the elements, or one of them
+    pub absent : (x : A) (xs : List A) → list_any (λ y. eq y x) xs ≡ false → AllByRecursion (λ y. x ≡ y → ⊥) xs
+    absent x [] e = tt
+    absent x (y ∷ xs) e =
+        let both = or_false (eq y x) (list_any (λ z. eq z x) xs) e in
+        (λ q. both_ways (eq y x) both.0 ((same y x).1 (sym q)), absent x xs both.1)
 
-  -- the element at i is none of those behind it, or the list is not distinct
-  pub absent_more : (l : List A) (i : ℕ) (x : A) → i < length l → x ≡ get_or l i x → AllByRecursion (λ y. x ≡ y → ⊥) (drop (i + 1) l)
-      → (Distinct (drop i l) → Distinct l) → Distinct (drop (i + 1) l) → Distinct l
-  absent_more l i x h e absent back u =
-      let split : drop i l ≡ x ∷ drop (i + 1) l = drop_more l i x h ∙ ap (λ y. y ∷ drop (i + 1) l) (sym e) in
-      back (subst Distinct (sym split) (absent, u))
+    pub present : (x : A) (xs : List A) → list_any (λ y. eq y x) xs ≡ true → AllByRecursion (λ y. x ≡ y → ⊥) xs → ⊥
+    present x [] e u = both_ways false refl e
+    present x (y ∷ xs) e u = ⊎_elim (λ q. u.0 (sym ((same y x).0 q))) (λ q. present x xs q u.1) (or_true (eq y x) (list_any (λ z. eq z x) xs) e)
 
-  pub absent_else : (l : List A) (i : ℕ) (x : A) → i < length l → x ≡ get_or l i x → Distinct l → AllByRecursion (λ y. x ≡ y → ⊥) (drop (i + 1) l)
-  absent_else l i x h e u =
-      let split : drop i l ≡ x ∷ drop (i + 1) l = drop_more l i x h ∙ ap (λ y. y ∷ drop (i + 1) l) (sym e) in
-      (subst Distinct split (distinct_drop i l u)).0
+-- the elements behind the first, as a slice pattern has them
+abbrev pub behind : {A : Type 0} → List A → List A
+behind l = take (length l - 1) (drop 1 l)
 
-  pub all_distinct : (l : List A) (i : ℕ) → length l ≤ i → (Distinct (drop i l) → Distinct l) → Distinct l
-  all_distinct l i h back = back (subst Distinct (sym (drop_all i l h)) tt)
+behind_cons : {A : Type 0} (y : A) (l : List A) → behind (y ∷ l) ≡ l
+behind_cons y l = take_all (length (y ∷ l) - 1) l (omega arith)
 
-  -- x is none of the first i, nor the one at i; or it is the one at i
-  pub absent_push : (l : List A) (i : ℕ) (x y : A) → i < length l → y ≡ get_or l i y → (x ≡ y → ⊥) → AllByRecursion (λ z. x ≡ z → ⊥) (take i l) → AllByRecursion (λ z. x ≡ z → ⊥) (take (i + 1) l)
-  absent_push l i x y h is ne front = All-more (λ z. x ≡ z → ⊥) l i y h front (λ e. ne (e ∙ sym is))
+pub behind_distinct : {A : Type 0} (l : List A) → 1 ≤ length l → Distinct l → Distinct (behind l)
+behind_distinct [] h u = absurd (omega arith)
+behind_distinct (y ∷ l) h u = subst Distinct (sym (behind_cons y l)) u.1
 
-  pub absent_not : (l : List A) (i : ℕ) (x y : A) → i < length l → y ≡ get_or l i y → x ≡ y → AllByRecursion (λ z. x ≡ z → ⊥) l → ⊥
-  absent_not l i x y h is e all = All-get_or (λ z. x ≡ z → ⊥) l i y h all (e ∙ is)
+module _ {A : Type 0} (eq : A → A → Bool) (same : (x y : A) → (eq x y ≡ true) ↔ (x ≡ y)) where
+  pub first_repeated : (l : List A) (x : A) → 1 ≤ length l → x ≡ get_or l 0 x → true ≡ list_any (λ y. eq y x) (behind l) → Distinct l → ⊥
+  first_repeated [] x h is e u = absurd (omega arith)
+  first_repeated (y ∷ l) x h is e u =
+      present eq same y l (ap (λ z. list_any (λ w. eq w z) l) (sym is) ∙ ap (list_any (λ w. eq w x)) (sym (behind_cons y l)) ∙ sym e) u.0
 
-  pub absent_all : (l : List A) (i : ℕ) (x : A) → length l ≤ i → AllByRecursion (λ z. x ≡ z → ⊥) (take i l) → AllByRecursion (λ z. x ≡ z → ⊥) l
-  absent_all l i x h = subst (AllByRecursion (λ z. x ≡ z → ⊥)) (take_all i l h)
+  pub first_absent : (l : List A) (x : A) → 1 ≤ length l → x ≡ get_or l 0 x → false ≡ list_any (λ y. eq y x) (behind l) → Distinct (behind l) → Distinct l
+  first_absent [] x h is e u = absurd (omega arith)
+  first_absent (y ∷ l) x h is e u = (
+    absent eq same y l (ap (λ z. list_any (λ w. eq w z) l) (sym is) ∙ ap (list_any (λ w. eq w x)) (sym (behind_cons y l)) ∙ sym e),
+    subst Distinct (behind_cons y l) u,
+  )
+
+-- a number between two powers of two that is one itself is the lower one
+pub log_of : (log count c : ℕ) → 2 ^ log ≤ count → count < 2 * 2 ^ log → count ≡ 2 ^ c → c ≡ log
+log_of log count c low high e =
+    pick (dec_lt c log) (λ l. let w = pow-lt l in absurd (omega arith))
+    (λ n. pick (dec_lt log c) (λ l. let w : 2 ^ suc log ≤ 2 ^ c = pow_mono l in let d = pow-succ' 2 log in absurd (omega arith)) (λ m. omega arith))

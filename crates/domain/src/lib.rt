@@ -4,7 +4,8 @@
 //! one point of m base elements.
 #![tactic(auto)]
 
-ghost use Rattle.std.specs.Prelude.{◌≡◌, ℕ, ◌^◌, ◌≤◌, Bool};
+ghost use Rattle.std.specs.Prelude.{◌≡◌, ℕ, ◌^◌, ◌≤◌, Bool, if◌then◌else◌, Ok, Err};
+ghost use Rattle.domain.specs.declared.query.Limit.TheVariants.{OutOfDomain};
 ghost use Rattle.domain.specs.Domains.{Domain, inside, told, coordinate, Lawful};
 
 use configuration::whir_parameters::SecurityAssumption;
@@ -37,6 +38,7 @@ pub trait WhirDomain<F: BaseField> {
         ensures capacity { result ≡ (meaning self.now).capacity }
         ensures small { result ≤ 16 };
 
+    // Kept: the three numbers of a position are parameters of their own in the protocol's interface.
     // The point of a queried position, as one element or as coordinates that are asked one by one.
     fn query_point(
         &self,
@@ -56,15 +58,25 @@ pub trait WhirDomain<F: BaseField> {
     ) -> Result<F, Limit>
         ensures { result ≡ coordinate F.Field.ops (meaning self.now) log_domain_size num_variables index j };
 
-    // A call that does nothing, and promises the law that joins base, extension and domain.
-    fn keeps_distance<E: ExtensionField<F>>(&self) -> u8
+    // The law that joins base, extension and domain.
+    // Kept: a ghost law cannot speak of every extension, whose types are of a larger universe than a law's.
+    fn keeps_distance<E: ExtensionField<F>>(&self)
         ensures { Lawful F.Field.ops E.Field.ops E.ExtensionField.extension.embed (meaning self.now) };
 }
 
-// Whether there is a point.
-pub(crate) fn is_inside(capacity: usize, log: usize, m: usize, index: usize) -> bool
+// Refuses a place at which there is no point.
+pub(crate) fn require_inside(
+    capacity: usize,
+    log: usize,
+    m: usize,
+    index: usize,
+) -> Result<(), Limit>
     requires { capacity ≤ 16 }
-    ensures { result ≡ inside capacity log m index }
+    ensures { result ≡ (if inside capacity log m index then Ok tt else Err OutOfDomain) }
 {
-    log <= capacity && m <= log && index < 1 << log
+    if log <= capacity && m <= log && index < 1 << log {
+        Ok(())
+    } else {
+        Err(Limit::OutOfDomain)
+    }
 }

@@ -6,7 +6,7 @@ ghost use Rattle.domain.specs.Listed.{Listable, listed};
 
 use crate::query::{Limit, WhirQueryPoint};
 use crate::two_adic::coordinate_of;
-use crate::{WhirDomain, is_inside};
+use crate::{WhirDomain, require_inside};
 use configuration::whir_parameters::SecurityAssumption;
 use field::{BaseField, ExtensionField, Field};
 
@@ -34,6 +34,7 @@ impl<'a, F: BaseField> ListedDomain<'a, F> {
         Ok(ListedDomain { points, log })
     }
 
+    // Kept: with the place read in `query_coordinate` itself it stays open that the element's offset in bytes fits a word.
     fn element(&self, index: usize) -> F
         requires { index < length self.now.points.now }
         ensures { result ≡ slice_index_or self.now.points.now index F.Field.ops.zero }
@@ -71,9 +72,7 @@ impl<'a, F: BaseField> WhirDomain<F> for ListedDomain<'a, F> {
         num_variables: usize,
         index: usize,
     ) -> Result<WhirQueryPoint<F>, Limit> {
-        if !is_inside(self.log, log_domain_size, num_variables, index) {
-            return Err(Limit::OutOfDomain);
-        }
+        require_inside(self.log, log_domain_size, num_variables, index)?;
         Ok(WhirQueryPoint::Multilinear)
     }
 
@@ -84,50 +83,44 @@ impl<'a, F: BaseField> WhirDomain<F> for ListedDomain<'a, F> {
         index: usize,
         j: usize,
     ) -> Result<F, Limit> {
-        if !is_inside(self.log, log_domain_size, num_variables, index) || j >= num_variables {
+        require_inside(self.log, log_domain_size, num_variables, index)?;
+        if j >= num_variables {
             return Err(Limit::OutOfDomain);
         }
         Ok(coordinate_of(self.element(index), num_variables, j))
     }
 
-    fn keeps_distance<E: ExtensionField<F>>(&self) -> u8 {
-        0
-    }
+    fn keeps_distance<E: ExtensionField<F>>(&self) {}
 }
+
+// A list has at most 2^12 elements.
+const MAX_LOG: usize = 12;
 
 // The logarithm of a length that is a power of two up to 4,096.
 fn log_of_length(count: usize) -> Option<usize>
     ensures { MatchOption result ((c : ℕ) → c ≤ 12 → count ≢ 2 ^ c) (λ c. (c ≤ 12) × (count ≡ 2 ^ c)) }
 {
-    for log in 0..13 {
-        if count == 1 << log {
-            return Some(log);
-        }
+    if count == 0 {
+        return None;
     }
-    None
+    let log = count.ilog2() as usize;
+    if log <= MAX_LOG && count == 1 << log {
+        Some(log)
+    } else {
+        None
+    }
 }
 
 fn are_distinct<F: Field>(points: &[F]) -> bool
     ensures yes { T result → Distinct points.now }
     ensures no { Distinct points.now → T result }
 {
-    for i in 0..points.len() {
-        if !is_absent(points[i], &points[i + 1..]) {
+    let mut rest = points;
+    while let [x, others @ ..] = rest {
+        if others.contains(x) {
             return false;
         }
-    }
-    true
-}
-
-// Whether x is no element of the list.
-fn is_absent<F: Field>(x: F, rest: &[F]) -> bool
-    ensures yes { T result → AllByRecursion (λ y. x ≢ y) rest.now }
-    ensures no { AllByRecursion (λ y. x ≢ y) rest.now → T result }
-{
-    for y in rest {
-        if x.equal(*y) {
-            return false;
-        }
+        rest = others;
     }
     true
 }

@@ -1,5 +1,5 @@
 // Selector coordinates for one queried codeword position.
-#[derive(Clone, Copy)]
+#[derive(Clone, Copy, PartialEq, Eq, Debug)]
 pub enum WhirQueryPoint<F> {
     // A univariate point expanded through successive squares.
     Univariate(F),

@@ -6,12 +6,12 @@ ghost use Rattle.domain.specs.Subgroup.{generator, subgroup};
 
 use crate::query::{Limit, WhirQueryPoint};
 use crate::two_adic::{TwoAdicField, coordinate_of, exp, generator_of};
-use crate::{WhirDomain, is_inside};
+use crate::{WhirDomain, require_inside};
 use configuration::whir_parameters::SecurityAssumption;
 use field::{BaseField, ExtensionField, Field};
 
 // The domain of the canonical two-adic protocol: the powers of the generator.
-#[derive(Clone, Copy)]
+#[derive(Clone, Copy, Debug, PartialEq, Eq)]
 pub struct SubgroupDomain;
 
 impl<F: TwoAdicField> WhirDomain<F> for SubgroupDomain {
@@ -40,9 +40,7 @@ impl<F: TwoAdicField> WhirDomain<F> for SubgroupDomain {
         num_variables: usize,
         index: usize,
     ) -> Result<WhirQueryPoint<F>, Limit> {
-        if !is_inside(F::two_adicity(), log_domain_size, num_variables, index) {
-            return Err(Limit::OutOfDomain);
-        }
+        require_inside(F::two_adicity(), log_domain_size, num_variables, index)?;
         Ok(WhirQueryPoint::Univariate(element(log_domain_size, index)))
     }
 
@@ -53,17 +51,14 @@ impl<F: TwoAdicField> WhirDomain<F> for SubgroupDomain {
         index: usize,
         j: usize,
     ) -> Result<F, Limit> {
-        if !is_inside(F::two_adicity(), log_domain_size, num_variables, index)
-            || j >= num_variables
-        {
+        require_inside(F::two_adicity(), log_domain_size, num_variables, index)?;
+        if j >= num_variables {
             return Err(Limit::OutOfDomain);
         }
         Ok(coordinate_of(element(log_domain_size, index), num_variables, j))
     }
 
-    fn keeps_distance<E: ExtensionField<F>>(&self) -> u8 {
-        0
-    }
+    fn keeps_distance<E: ExtensionField<F>>(&self) {}
 }
 
 // The power of the generator at an index.

@@ -4,9 +4,10 @@ ghost use Rattle.multilinear.specs.Univariate.{pow, expand};
 ghost use Rattle.domain.specs.declared.query.Limit.TheVariants.{OutOfDomain};
 ghost use Rattle.domain.specs.Subgroup.{TwoAdic, generator};
 ghost use Rattle.domain.specs.Readings.{Generators};
-ghost use Rattle.domain.specs.TwoAdicity.{order_257, order_65537};
+ghost use Rattle.domain.specs.TwoAdicity.{prime_order};
 
 use crate::query::Limit;
+use field::base::FermatPrime;
 use field::residue::Residue;
 use field::{BaseField, Field};
 
@@ -20,23 +21,16 @@ pub trait TwoAdicField: BaseField {
     ghost order: { TwoAdic Self.Field.ops Self.BaseField.numbering adicity };
 }
 
-impl TwoAdicField for Residue<257> {
-    ghost adicity = { 8 };
+impl<const P: u32> TwoAdicField for Residue<P>
+where
+    Residue<P>: FermatPrime<P>,
+{
+    ghost adicity = { ⟦<Residue<P> as FermatPrime<P>>⟧.EXPONENT };
 
-    ghost order = { order_257 };
-
-    fn two_adicity() -> usize {
-        8
-    }
-}
-
-impl TwoAdicField for Residue<65537> {
-    ghost adicity = { 16 };
-
-    ghost order = { order_65537 };
+    ghost order = { prime_order ⟦<Residue<P> as FermatPrime<P>>⟧.prime };
 
     fn two_adicity() -> usize {
-        16
+        <Residue<P> as FermatPrime<P>>::EXPONENT
     }
 }
 
@@ -91,8 +85,6 @@ pub(crate) fn coordinate_of<F: Field>(v: F, m: usize, j: usize) -> F
 }
 
 // Sample readings of the generators.
-pub fn generators_read() -> u8
+pub fn generators_read()
     ensures { Generators }
-{
-    0
-}
+{}

@@ -13,7 +13,66 @@ use domain::subgroup::SubgroupDomain;
 use domain::two_adic::TwoAdicField;
 use field::residue::Residue;
 use field::{BaseField, Field};
-use std::alloc::Global;
+use std::alloc::{AllocError, Global};
+use std::str::FromStr;
+
+// What a line asks of a domain.
+#[derive(Clone, Copy)]
+enum Kind {
+    Capacity,
+    Position,
+    Point,
+    List,
+    Element,
+    Repeat,
+}
+
+// A word that is no kind.
+#[derive(Clone, Copy, Debug)]
+struct UnknownKind;
+
+impl FromStr for Kind {
+    type Err = UnknownKind;
+
+    fn from_str(word: &str) -> Result<Kind, UnknownKind> {
+        match word {
+            "capacity" => Ok(Kind::Capacity),
+            "position" => Ok(Kind::Position),
+            "point" => Ok(Kind::Point),
+            "list" => Ok(Kind::List),
+            "element" => Ok(Kind::Element),
+            "repeat" => Ok(Kind::Repeat),
+            _ => Err(UnknownKind),
+        }
+    }
+}
+
+// A queried position, with the number of variables of its point.
+#[derive(Clone, Copy)]
+struct Place {
+    log: usize,
+    m: usize,
+    index: usize,
+}
+
+impl Place {
+    fn new(log: u32, m: u32, index: u32) -> Place {
+        Place {
+            log: log as usize,
+            m: m as usize,
+            index: index as usize,
+        }
+    }
+}
+
+// What a domain says of itself.
+#[derive(Clone, Copy)]
+struct Traits {
+    capacity: u32,
+    id: &'static [u8],
+    strata: bool,
+    capacity_bound: bool,
+}
 
 // A point told as one element has it for its last coordinate.
 fn told_agrees<F: BaseField>(
@@ -27,105 +86,90 @@ fn told_agrees<F: BaseField>(
     }
 }
 
-fn coordinate_agrees<F: BaseField>(answer: Result<F, Limit>, want: Option<u32>) -> bool {
-    match (answer, want) {
-        (Ok(x), Some(number)) => x.number() == number,
-        (Err(_), None) => true,
-        _ => false,
-    }
-}
-
-// Each coordinate is told, and none past the last.
-fn coordinates_agree<F: BaseField, D: WhirDomain<F>>(
+// Coordinate j of a point is told, or refused where none is wanted.
+fn coordinate_agrees<F: BaseField, D: WhirDomain<F>>(
     domain: &D,
-    log: usize,
-    m: usize,
-    index: usize,
-    coordinates: &[u32],
+    place: Place,
+    j: usize,
+    want: Option<u32>,
 ) -> bool {
-    for j in 0..=m {
-        let answer = domain.query_coordinate(log, m, index, j);
-        if !coordinate_agrees(answer, coordinates.get(j).copied()) {
-            return false;
-        }
-    }
-    coordinates.len() == m
+    let answer = domain.query_coordinate(place.log, place.m, place.index, j);
+    answer.ok().map(|x| x.number()) == want
 }
 
-fn point_agrees<F: BaseField, D: WhirDomain<F>>(domain: &D, place: &[u32], want: &[u32]) -> bool {
-    let [log, m, index] = place else {
-        return false;
-    };
-    let (log, m, index) = (*log as usize, *m as usize, *index as usize);
-    let answer = domain.query_point(log, m, index);
+fn point_agrees<F: BaseField, D: WhirDomain<F>>(domain: &D, place: Place, want: &[u32]) -> bool {
+    let answer = domain.query_point(place.log, place.m, place.index);
     match want {
-        [0] => match answer {
-            Ok(_) => false,
-            Err(_) => coordinate_agrees(domain.query_coordinate(log, m, index, 0), None),
-        },
+        [0] => answer.is_err() && coordinate_agrees(domain, place, 0, None),
+        // Each coordinate is told, and none past the last.
         [1, coordinates @ ..] => {
             told_agrees(answer, coordinates)
-                && coordinates_agree(domain, log, m, index, coordinates)
+                && coordinates.len() == place.m
+                && (0..=place.m).all(|j| coordinate_agrees(
+                    domain,
+                    place,
+                    j,
+                    coordinates.get(j).copied(),
+                ))
         }
         _ => false,
     }
 }
 
-// Capacity, id, strata and the most daring kind of soundness.
-fn kind_agrees<F: BaseField, D: WhirDomain<F>>(
-    domain: &D,
-    capacity: u32,
-    id: &[u8],
-    strata: bool,
-    daring: bool,
-) -> bool {
-    domain.max_log_domain_size() == capacity as usize
-        && domain.protocol_id() == id
-        && domain.stratified_queries() == strata
+fn traits_agree<F: BaseField, D: WhirDomain<F>>(domain: &D, traits: Traits) -> bool {
+    domain.max_log_domain_size() == traits.capacity as usize
+        && domain.protocol_id() == traits.id
+        && domain.stratified_queries() == traits.strata
         && domain.supports_security_assumption(SecurityAssumption::JohnsonBound)
-        && domain.supports_security_assumption(SecurityAssumption::CapacityBound) == daring
+        && domain.supports_security_assumption(SecurityAssumption::CapacityBound)
+            == traits.capacity_bound
 }
 
-fn subgroup_agrees<F: TwoAdicField>(kind: &str, numbers: &[u32]) -> bool {
-    match (kind, numbers) {
-        ("capacity", [capacity]) => {
-            kind_agrees::<F, SubgroupDomain>(&SubgroupDomain, *capacity, b"", false, true)
-        }
-        ("position", [log, index, value]) => {
-            match SubgroupDomain.query_point(*log as usize, 0, *index as usize) {
-                Ok(WhirQueryPoint::Univariate(v)) => {
-                    let v: F = v;
-                    v.number() == *value
-                }
-                _ => false,
-            }
-        }
-        ("point", [log, m, index, want @ ..]) => {
-            point_agrees::<F, SubgroupDomain>(&SubgroupDomain, &[*log, *m, *index], want)
-        }
+fn capacity_agrees<F: TwoAdicField>(capacity: u32) -> bool {
+    let traits = Traits {
+        capacity,
+        id: b"",
+        strata: false,
+        capacity_bound: true,
+    };
+    traits_agree::<F, SubgroupDomain>(&SubgroupDomain, traits)
+}
+
+fn position_agrees<F: TwoAdicField>(log: u32, index: u32, value: u32) -> bool {
+    let answer: Result<WhirQueryPoint<F>, Limit> = SubgroupDomain.query_point(
+        log as usize,
+        0,
+        index as usize,
+    );
+    match answer {
+        Ok(WhirQueryPoint::Univariate(v)) => v.number() == value,
         _ => false,
     }
 }
 
-fn multiples<F: BaseField>(heap: Global, count: u32, step: u32) -> anyhow::Result<Vec<F>> {
-    let mut list = Vec::new(heap);
-    for k in 0..count {
-        list.push(F::from_word(k.wrapping_mul(step)))?;
-    }
-    Ok(list)
+fn multiples<F: BaseField>(heap: Global, count: u32, step: u32) -> Result<Vec<F>, AllocError> {
+    (0..count)
+        .map(|k| F::from_word(k.wrapping_mul(step)))
+        .collect(heap)
 }
 
 fn list_agrees<F: BaseField>(list: &[F], want: &[u32]) -> bool {
     match (ListedDomain::new(list), want) {
         (Ok(domain), [1, log]) => {
-            kind_agrees::<F, ListedDomain<F>>(&domain, *log, b"list", true, false)
+            let traits = Traits {
+                capacity: *log,
+                id: b"list",
+                strata: true,
+                capacity_bound: false,
+            };
+            traits_agree::<F, ListedDomain<F>>(&domain, traits)
         }
         (Err(_), [0]) => true,
         _ => false,
     }
 }
 
-fn element_agrees<F: BaseField>(list: &[F], place: &[u32], want: &[u32]) -> bool {
+fn element_agrees<F: BaseField>(list: &[F], place: Place, want: &[u32]) -> bool {
     match ListedDomain::new(list) {
         Ok(domain) => point_agrees::<F, ListedDomain<F>>(&domain, place, want),
         Err(_) => false,
@@ -141,61 +185,57 @@ fn repeat_agrees<F: BaseField>(list: &mut [F], i: u32, j: u32) -> bool {
     list_agrees(list, &[0])
 }
 
-fn listed_agrees<F: BaseField>(heap: Global, kind: &str, numbers: &[u32]) -> anyhow::Result<bool> {
-    let [count, rest @ ..] = numbers else {
-        return Ok(false);
-    };
-    match (kind, rest) {
-        ("list", [step, want @ ..]) => {
-            let list: Vec<F> = multiples(heap, *count, *step)?;
-            Ok(list_agrees(&list, want))
+// Kept: a match on the kind of a line, one arm each, says what is compared; a closure for each kind would say no more.
+fn agrees<F: TwoAdicField>(heap: Global, kind: Kind, numbers: &[u32]) -> anyhow::Result<bool> {
+    Ok(match (kind, numbers) {
+        (Kind::Capacity, [capacity]) => capacity_agrees::<F>(*capacity),
+        (Kind::Position, [log, index, value]) => position_agrees::<F>(*log, *index, *value),
+        (Kind::Point, [log, m, index, want @ ..]) => {
+            let place = Place::new(*log, *m, *index);
+            point_agrees::<F, SubgroupDomain>(&SubgroupDomain, place, want)
         }
-        ("element", [step, log, m, index, want @ ..]) => {
+        (Kind::List, [count, step, want @ ..]) => {
             let list: Vec<F> = multiples(heap, *count, *step)?;
-            Ok(element_agrees(&list, &[*log, *m, *index], want))
+            list_agrees(&list, want)
         }
-        ("repeat", [i, j]) => {
+        (Kind::Element, [count, step, log, m, index, want @ ..]) => {
+            let list: Vec<F> = multiples(heap, *count, *step)?;
+            element_agrees(&list, Place::new(*log, *m, *index), want)
+        }
+        (Kind::Repeat, [count, i, j]) => {
             let mut list: Vec<F> = multiples(heap, *count, 1)?;
-            Ok(repeat_agrees(&mut list, *i, *j))
+            repeat_agrees(&mut list, *i, *j)
         }
-        _ => Ok(false),
-    }
+        _ => false,
+    })
 }
 
-fn line_agrees(heap: Global, kind: &str, line: &[u32]) -> anyhow::Result<bool> {
-    let subgroup = kind == "capacity" || kind == "position" || kind == "point";
+fn line_agrees(heap: Global, kind: Kind, line: &[u32]) -> anyhow::Result<bool> {
     match line {
-        [257, numbers @ ..] => {
-            if subgroup {
-                Ok(subgroup_agrees::<Residue<257>>(kind, numbers))
-            } else {
-                listed_agrees::<Residue<257>>(heap, kind, numbers)
-            }
-        }
-        [65537, numbers @ ..] => {
-            if subgroup {
-                Ok(subgroup_agrees::<Residue<65537>>(kind, numbers))
-            } else {
-                listed_agrees::<Residue<65537>>(heap, kind, numbers)
-            }
-        }
+        [257, numbers @ ..] => agrees::<Residue<257>>(heap, kind, numbers),
+        [65537, numbers @ ..] => agrees::<Residue<65537>>(heap, kind, numbers),
         _ => Ok(false),
     }
 }
 
+// Kept: each program of stored lines counts them by itself, since which lines count and what is printed differ.
 fn main(rt: HostRuntime) -> anyhow::Result<()> {
     let mut count = 0u64;
     let mut agree = 0u64;
     for line in rt.lines(rt.alloc()) {
         let line = line?;
         let mut words = line.split_whitespace();
-        let kind = words.next().unwrap_or("");
+        let kind = words.next().unwrap_or("").parse::<Kind>();
         let mut numbers = Vec::new(rt.alloc());
         for word in words {
             numbers.push(word.parse::<u32>()?)?;
         }
         count = count.saturating_add(1);
-        if line_agrees(rt.alloc(), kind, &numbers)? {
+        let agrees = match kind {
+            Ok(kind) => line_agrees(rt.alloc(), kind, &numbers)?,
+            Err(_) => false,
+        };
+        if agrees {
             agree = agree.saturating_add(1);
         } else {
             println!(rt; "differs: {line}")?;

@@ -1,84 +1,78 @@
 -- Elements as bytes: writing and reading word by word, and reading back. Assumes nothing.
-use Rattle.std.proofs.Common.{◌≡◌, ℕ, zero, suc, ◌+◌, ◌*◌, ◌/◌, ◌%◌, ◌^◌, ◌<◌, ◌≤◌, Bool, true, false, cond, ltb, List, [], ◌∷◌, ◌++◌, length, get_or, take, drop, set, Some, None, Option, sym, refl, ap, ◌∙◌, subst, ap₂, ⊎_elim, append_assoc, le_of_suc-le-suc, not-suc-le-zero, mod-eq_of_lt, div-lt_iff_lt-mul, div-add-mod', suc-ne-zero, arith, lit<, take-add}
-use native.Mathlib.Nat.{div-div-eq-div-mul}
-use lib.Arith.{digits_mod, digits_div}
-use Rattle.std.proofs.lemmas.List.{take_at, drop_at, drop-drop, take_more, take_more_set, take_all, length-take-le}
-use Rattle.std.proofs.lemmas.Bool.{ltb-true, ltb-false}
+use Rattle.std.proofs.Common.{◌≡◌, ℕ, zero, suc, ◌+◌, ◌*◌, ◌^◌, ◌<◌, ◌≤◌, List, [], ◌∷◌, ◌++◌, map, length, get_or, take, drop, Some, None, Option, w32, sym, refl, ap, ◌∙◌, subst, ap₂, inr, ⊎_elim, le_of_suc-le-suc, not-suc-le-zero, suc-ne-zero, arith, lit<, take-add, length-drop, get_or-drop}
+use Rattle.std.specs.List.{Any, All}
+use Rattle.std.specs.Int.{from_le_bytes}
+use Rattle.std.specs.Simd.{first_chunks}
+use Rattle.std.proofs.lemmas.List.{drop-drop, take_more, length-take-le, length-map, get_or-map}
+use Rattle.std.proofs.lemmas.List.Elements.{All-get_or}
+use Rattle.std.proofs.lemmas.Nat.{le_bytes_4, from_le_bytes-to_le_bytes_4}
 use Rattle.ring.specs.Ring.{Ops}
 use Rattle.field.specs.Numbers.{Numbering, Numbers}
 use Rattle.field.specs.Extension.{Extension, Extends}
-use Rattle.field.specs.Bytes.{word_bytes, little_endian, coefficients_bytes, element_bytes, Overflows, Reads, ReadBack}
-
--- four places in a row
-
-sets : (xs : List ℕ) (n a b c d : ℕ) → suc (suc (suc (suc n))) ≤ length xs →
-    set (set (set (set xs n a) (suc n) b) (suc (suc n)) c) (suc (suc (suc n))) d ≡ take n xs ++ (a ∷ b ∷ c ∷ d ∷ drop (suc (suc (suc (suc n)))) xs)
-sets [] n a b c d h = absurd (not-suc-le-zero h)
-sets (x ∷ xs) (suc n) a b c d h = ap (λ l. x ∷ l) (sets xs n a b c d (le_of_suc-le-suc h))
-sets (w ∷ x ∷ y ∷ z ∷ xs) zero a b c d h = refl
-sets (w ∷ []) zero a b c d h = absurd (not-suc-le-zero (le_of_suc-le-suc h))
-sets (w ∷ x ∷ []) zero a b c d h = absurd (not-suc-le-zero (le_of_suc-le-suc (le_of_suc-le-suc h)))
-sets (w ∷ x ∷ y ∷ []) zero a b c d h = absurd (not-suc-le-zero (le_of_suc-le-suc (le_of_suc-le-suc (le_of_suc-le-suc h))))
-
-reads : (xs : List ℕ) (n : ℕ) → suc (suc (suc (suc n))) ≤ length xs →
-    take 4 (drop n xs) ≡ (get_or xs n 0 ∷ get_or xs (suc n) 0 ∷ get_or xs (suc (suc n)) 0 ∷ get_or xs (suc (suc (suc n))) 0 ∷ [])
-reads [] n h = absurd (not-suc-le-zero h)
-reads (x ∷ xs) (suc n) h = reads xs n (le_of_suc-le-suc h)
-reads (w ∷ x ∷ y ∷ z ∷ xs) zero h = refl
-reads (w ∷ []) zero h = absurd (not-suc-le-zero (le_of_suc-le-suc h))
-reads (w ∷ x ∷ []) zero h = absurd (not-suc-le-zero (le_of_suc-le-suc (le_of_suc-le-suc h)))
-reads (w ∷ x ∷ y ∷ []) zero h = absurd (not-suc-le-zero (le_of_suc-le-suc (le_of_suc-le-suc (le_of_suc-le-suc h))))
-
-one_more : (n : ℕ) → n + 1 ≡ suc n
-one_more n = omega arith
-
-two_more : (n : ℕ) → n + 2 ≡ suc (suc n)
-two_more n = omega arith
-
-three_more : (n : ℕ) → n + 3 ≡ suc (suc (suc n))
-three_more n = omega arith
-
-four_more : (n : ℕ) → n + 4 ≡ suc (suc (suc (suc n)))
-four_more n = omega arith
-
-pub four_sets : (xs : List ℕ) (n a b c d : ℕ) → n + 4 ≤ length xs →
-    set (set (set (set xs n a) (n + 1) b) (n + 2) c) (n + 3) d ≡ take n xs ++ (a ∷ b ∷ c ∷ d ∷ drop (n + 4) xs)
-four_sets xs n a b c d h = rw (one_more, two_more, three_more, four_more) (sets xs n a b c d (omega arith))
-
-pub four_reads : (xs : List ℕ) (n : ℕ) → n + 4 ≤ length xs →
-    take 4 (drop n xs) ≡ (get_or xs n 0 ∷ get_or xs (n + 1) 0 ∷ get_or xs (n + 2) 0 ∷ get_or xs (n + 3) 0 ∷ [])
-four_reads xs n h = rw (one_more, two_more, three_more) (reads xs n (omega arith))
+use Rattle.field.specs.Bytes.{word_bytes, little_endian, coefficients_bytes, element_bytes, Overflows, Reads, ReadsNumbers, ReadBack}
 
 -- numbers and their four bytes
 
-pub word_of : (a b c d : ℕ) → a + b * 256 + c * 65536 + d * 16777216 ≡ little_endian (a ∷ b ∷ c ∷ d ∷ [])
-word_of a b c d = omega arith
-
-cons4 : {a b c d e f g h : ℕ} → a ≡ e → b ≡ f → c ≡ g → d ≡ h → (a ∷ b ∷ c ∷ d ∷ []) ≡ (e ∷ f ∷ g ∷ h ∷ [])
-cons4 p q r s = λ j. p j ∷ q j ∷ r j ∷ s j ∷ []
-
--- n is q times 256 and r
-split : (n q r : ℕ) → r < 256 → n ≡ q * 256 + r → (n % 256 ≡ r) × (n / 256 ≡ q)
-split n q r l e = (ap (λ k. k % 256) e ∙ digits_mod q l, ap (λ k. k / 256) e ∙ digits_div q l)
-
-pub bytes_of : (n a b c d : ℕ) → a < 256 → b < 256 → c < 256 → d < 256 → n ≡ a + b * 256 + c * 65536 + d * 16777216 → word_bytes n ≡ (a ∷ b ∷ c ∷ d ∷ [])
-bytes_of n a b c d la lb lc ld e =
-    let p = split n (b + c * 256 + d * 65536) a la (omega arith) in
-    let q = split (n / 256) (c + d * 256) b lb (p.1 ∙ omega arith) in
-    let r = split (n / 256 / 256) d c lc (q.1 ∙ omega arith) in
-    let s : n / 16777216 ≡ d = sym (div-div-eq-div-mul n 65536 256) ∙ ap (λ k. k / 256) (sym (div-div-eq-div-mul n 256 256)) ∙ r.1 in
-    cons4 p.0 q.0 (ap (λ k. k % 256) (sym (div-div-eq-div-mul n 256 256)) ∙ r.0) (ap (λ k. k % 256) s ∙ mod-eq_of_lt ld)
-
 pub number_of_bytes : (n : ℕ) → n < 2 ^ 32 → little_endian (word_bytes n) ≡ n
-number_of_bytes n l =
-    let e1 = div-add-mod' n 256 in
-    let e2 = div-add-mod' (n / 256) 256 in
-    let e3 = div-add-mod' (n / 65536) 256 in
-    let p = div-div-eq-div-mul n 256 256 in
-    let q = div-div-eq-div-mul n 65536 256 in
-    let small : n / 16777216 < 256 = (div-lt_iff_lt-mul {k = 16777216} {x = n} {y = 256} (lit< tt)).1 l in
-    let r = mod-eq_of_lt small in
-    omega arith
+number_of_bytes n l = let e = from_le_bytes-to_le_bytes_4 n l in omega arith
+
+-- words as bytes
+
+abbrev pub words_bytes : List ℕ → List ℕ
+words_bytes [] = []
+words_bytes (w ∷ ws) = word_bytes w ++ words_bytes ws
+
+pub length_words : (ws : List ℕ) → length (words_bytes ws) ≡ 4 * length ws
+length_words [] = refl
+length_words (w ∷ ws) = let h = length_words ws in omega arith
+
+words_push : (ws : List ℕ) (w : ℕ) → words_bytes (ws ++ (w ∷ [])) ≡ words_bytes ws ++ word_bytes w
+words_push [] w = refl
+words_push (v ∷ ws) w = ap (λ l. word_bytes v ++ l) (words_push ws w)
+
+-- the word at a place
+word_at : (ws : List ℕ) (j z : ℕ) → j < length ws → take 4 (drop (4 * j) (words_bytes ws)) ≡ word_bytes (get_or ws j z)
+word_at [] j z l = absurd (not-suc-le-zero l)
+word_at (w ∷ ws) zero z l = refl
+word_at (w ∷ ws) (suc j) z l =
+    let e : 4 * suc j ≡ suc (suc (suc (suc (4 * j)))) = omega arith in
+    ap (λ k. take 4 (drop k (word_bytes w ++ words_bytes ws))) e ∙ word_at ws j z (le_of_suc-le-suc l)
+
+number_at : (ws : List ℕ) (j z : ℕ) → j < length ws → get_or ws j z < 2 ^ 32 → little_endian (take 4 (drop (4 * j) (words_bytes ws))) ≡ get_or ws j z
+number_at ws j z l small = ap little_endian (word_at ws j z l) ∙ number_of_bytes (get_or ws j z) small
+
+chunk_at : (k i : ℕ) (xs : List ℕ) (z : List ℕ) → i < k → get_or (first_chunks 4 k xs) i z ≡ take 4 (drop (4 * i) xs)
+chunk_at zero i xs z l = absurd (not-suc-le-zero l)
+chunk_at (suc k) zero xs z l = refl
+chunk_at (suc k) (suc i) xs z l =
+    let e : 4 + 4 * i ≡ 4 * suc i = omega arith in
+    chunk_at k i (drop 4 xs) z (le_of_suc-le-suc l) ∙ ap (take 4) (drop-drop (4 * i) 4 xs ∙ ap (λ j. drop j xs) e)
+
+pub words_count : (ws bytes : List ℕ) (j : ℕ) → 4 * j ≤ length bytes → words_bytes ws ≡ take (4 * j) bytes → length ws ≡ j
+words_count ws bytes j l e =
+    let size = length-take-le (4 * j) bytes l in
+    omega (arith, sym (length_words ws) ∙ ap length e)
+
+small_drop : (xs : List ℕ) (i : ℕ) → ((k : ℕ) → get_or xs k 0 < 256) → (k : ℕ) → get_or (drop i xs) k 0 < 256
+small_drop xs i small k = subst (λ b. b < 256) (sym (get_or-drop i xs k 0)) (small (i + k))
+
+small_take : (xs : List ℕ) (n : ℕ) → ((k : ℕ) → get_or xs k 0 < 256) → (k : ℕ) → get_or (take n xs) k 0 < 256
+small_take xs zero small k = lit< tt
+small_take [] (suc n) small k = lit< tt
+small_take (x ∷ xs) (suc n) small zero = small 0
+small_take (x ∷ xs) (suc n) small (suc k) = small_take xs n (λ i. small (suc i)) k
+
+-- one word more is read
+pub read_more : (ws after bytes z : List ℕ) (words : List (List ℕ)) (j k w : ℕ) → 4 * k ≤ length bytes → words ≡ first_chunks 4 k bytes → j < k →
+    ((i : ℕ) → get_or bytes i 0 < 256) → w ≡ from_le_bytes w32 (get_or words j z) → words_bytes ws ≡ take (4 * j) bytes → after ≡ ws ++ (w ∷ []) → words_bytes after ≡ take (4 * (j + 1)) bytes
+read_more ws after bytes z words j k w room chunks l small number inv e =
+    let word = take 4 (drop (4 * j) bytes) in
+    let at : get_or words j z ≡ take 4 (drop (4 * j) bytes) = ap (λ c. get_or c j z) chunks ∙ chunk_at k j bytes z l in
+    let rest = length-drop (4 * j) bytes in
+    let four = length-take-le 4 (drop (4 * j) bytes) (omega arith) in
+    let places : 4 * j + 4 ≡ 4 * (j + 1) = omega arith in
+    ap words_bytes e ∙ words_push ws w ∙ ap₂ ◌++◌ inv (le_bytes_4 word w four (small_take (drop (4 * j) bytes) 4 (small_drop bytes (4 * j) small)) (number ∙ ap (from_le_bytes w32) at)) ∙
+    sym (take-add (4 * j) 4 bytes) ∙ ap (λ n. take n bytes) places
 
 -- an element's bytes
 
@@ -94,68 +88,23 @@ module _ {A : Type 0} (n : Numbering A) where
   bytes_push : (cs : List A) (c : A) → coefficients_bytes n (cs ++ (c ∷ [])) ≡ coefficients_bytes n cs ++ word_bytes (n.number c)
   bytes_push cs c = bytes_append cs (c ∷ [])
 
-  -- one coefficient more is written at its place
-  pub write_more : (cs : List A) (z c : A) (j w : ℕ) (out before after : List ℕ) → j < length cs → out ≡ coefficients_bytes n (take j cs) ++ drop (4 * j) before →
-      c ≡ get_or cs j z → w ≡ n.number c → after ≡ take (4 * j) out ++ (word_bytes w ++ drop (4 * j + 4) out) →
-      after ≡ coefficients_bytes n (take (j + 1) cs) ++ drop (4 * (j + 1)) before
-  write_more cs z c j w out before after l inv coefficient number e =
-      let front = coefficients_bytes n (take j cs) in
-      let word = word_bytes (n.number (get_or cs j z)) in
-      let size : length (coefficients_bytes n (take j cs)) ≡ 4 * j = length_bytes (take j cs) ∙ ap (λ k. 4 * k) (length-take-le j cs (omega arith)) in
-      let low : take (4 * j) out ≡ front = ap (take (4 * j)) inv ∙ take_at front _ _ size in
-      let rest : drop (4 * j) out ≡ drop (4 * j) before = ap (drop (4 * j)) inv ∙ drop_at front _ _ size in
-      let places : 4 * j + 4 ≡ 4 * (j + 1) = omega arith in
-      let high : drop (4 * j + 4) out ≡ drop (4 * (j + 1)) before =
-      sym (drop-drop 4 (4 * j) out) ∙ ap (drop 4) rest ∙ drop-drop 4 (4 * j) before ∙ ap (λ k. drop k before) places in
-      e ∙ ap (λ k. take (4 * j) out ++ (word_bytes k ++ drop (4 * j + 4) out)) (number ∙ ap n.number coefficient) ∙ ap₂ (λ u v. u ++ (word ++ v)) low high ∙ sym (append_assoc front word (drop (4 * (j + 1)) before)) ∙
-      ap (λ u. u ++ drop (4 * (j + 1)) before) (sym (bytes_push (take j cs) (get_or cs j z)) ∙ ap (coefficients_bytes n) (sym (take_more cs j z l)))
+  pub written_length : (cs : List A) (j : ℕ) (written : List ℕ) → j < length cs → written ≡ coefficients_bytes n (take j cs) → length written ≡ 4 * j
+  written_length cs j written l e = ap length e ∙ length_bytes (take j cs) ∙ ap (λ k. 4 * k) (length-take-le j cs (omega arith))
 
-  pub write_all : (cs : List A) (out before : List ℕ) (j d : ℕ) → length cs ≡ d → d ≤ j → out ≡ coefficients_bytes n (take j cs) ++ drop (4 * j) before → j ≤ d →
-      out ≡ coefficients_bytes n cs ++ drop (4 * d) before
-  write_all cs out before j d size l inv u =
-      let e : j ≡ d = omega arith in
-      inv ∙ ap₂ (λ f k. coefficients_bytes n f ++ drop (4 * k) before) (take_all j cs (omega arith)) e
+  coefficients_words : (cs : List A) → coefficients_bytes n cs ≡ words_bytes (map n.number cs)
+  coefficients_words [] = refl
+  coefficients_words (c ∷ cs) = ap (λ l. word_bytes (n.number c) ++ l) (coefficients_words cs)
 
--- what `new` answered of a word
-accepted : {A : Type 0} (b : Bool) (x y : A) → Some x ≡ cond b (Some y) None → (b ≡ true) × (x ≡ y)
-accepted true x y e = (refl, cc)
-accepted false x y e = let z : ◌≡◌ {A = ℕ} 0 1 = cc in absurd (suc-ne-zero 0 (sym z))
-
-refused : {A : Type 0} (b : Bool) (y : A) → None ≡ cond b (Some y) None → b ≡ false
-refused true y e = let z : ◌≡◌ {A = ℕ} 0 1 = cc in absurd (suc-ne-zero 0 (sym z))
-refused false y e = refl
+  -- one coefficient more is written
+  pub write_more : (cs : List A) (z c : A) (j w : ℕ) (before after : List ℕ) → j < length cs → before ≡ coefficients_bytes n (take j cs) →
+      c ≡ get_or cs j z → w ≡ n.number c → after ≡ before ++ word_bytes w → after ≡ coefficients_bytes n (take (j + 1) cs)
+  write_more cs z c j w before after l inv coefficient number e =
+      e ∙ ap₂ (λ u v. u ++ word_bytes v) inv (number ∙ ap n.number coefficient) ∙
+      sym (bytes_push (take j cs) (get_or cs j z)) ∙ ap (coefficients_bytes n) (sym (take_more cs j z l))
 
 module _ {A : Type 0} {o : Ops A} {n : Numbering A} (N : Numbers o n) where
-  accepted_number : (w : ℕ) (x : A) → Some x ≡ cond (ltb w n.modulus) (Some (n.residue w)) None → n.number x ≡ w
-  accepted_number w x e =
-      let a = accepted (ltb w n.modulus) x (n.residue w) e in
-      ap n.number a.1 ∙ N.number_residue w ∙ mod-eq_of_lt (ltb-true w n.modulus a.0)
-
-  pub refused_word : (w : ℕ) → None ≡ cond (ltb w n.modulus) (Some (n.residue w)) None → n.modulus ≤ w
-  refused_word w e = ltb-false w n.modulus (refused (ltb w n.modulus) (n.residue w) e)
-
-  -- one coefficient more is read from its place
-  pub read_more : (cs after : List A) (j w : ℕ) (x : A) (bytes : List ℕ) → j < length cs → coefficients_bytes n (take j cs) ≡ take (4 * j) bytes →
-      word_bytes w ≡ take 4 (drop (4 * j) bytes) → Some x ≡ cond (ltb w n.modulus) (Some (n.residue w)) None → after ≡ set cs j x →
-      coefficients_bytes n (take (j + 1) after) ≡ take (4 * (j + 1)) bytes
-  read_more cs after j w x bytes l inv word new e =
-      let places : 4 * j + 4 ≡ 4 * (j + 1) = omega arith in
-      ap (λ k. coefficients_bytes n (take (j + 1) k)) e ∙ ap (coefficients_bytes n) (take_more_set cs j x l) ∙ bytes_push n (take j cs) x ∙
-      ap₂ ◌++◌ inv (ap word_bytes (accepted_number w x new) ∙ word) ∙ sym (take-add (4 * j) 4 bytes) ∙ ap (λ k. take k bytes) places
-
   small_number : (x : A) → n.number x < 2 ^ 32
   small_number x = let a = N.below x in let b = N.small in omega arith
-
-  -- the word at a coefficient's place is its number
-  word_at : (cs : List A) (j : ℕ) (z : A) → j < length cs → take 4 (drop (4 * j) (coefficients_bytes n cs)) ≡ word_bytes (n.number (get_or cs j z))
-  word_at [] j z l = absurd (not-suc-le-zero l)
-  word_at (c ∷ cs) zero z l = refl
-  word_at (c ∷ cs) (suc j) z l =
-      let e : 4 * suc j ≡ suc (suc (suc (suc (4 * j)))) = omega arith in
-      ap (λ k. take 4 (drop k (word_bytes (n.number c) ++ coefficients_bytes n cs))) e ∙ word_at cs j z (le_of_suc-le-suc l)
-
-  number_at : (cs : List A) (j : ℕ) (z : A) → j < length cs → little_endian (take 4 (drop (4 * j) (coefficients_bytes n cs))) ≡ n.number (get_or cs j z)
-  number_at cs j z l = ap little_endian (word_at cs j z l) ∙ number_of_bytes (n.number (get_or cs j z)) (small_number (get_or cs j z))
 
   same_number : (c d : A) → word_bytes (n.number c) ≡ word_bytes (n.number d) → c ≡ d
   same_number c d e =
@@ -176,9 +125,13 @@ module _ {A : Type 0} {o : Ops A} {n : Numbering A} (N : Numbers o n) where
     fits : (y : B) → Overflows n x (element_bytes n x y) → ⊥
     fits y over =
         let j = over.0 in
+        let numbers = map n.number (x.coefficients y) in
         let l : j < length (x.coefficients y) = subst (λ k. j < k) (sym (E.count y)) over.1 in
         let c = get_or (x.coefficients y) j o.zero in
-        let at : n.modulus ≤ n.number c = subst (λ k. n.modulus ≤ k) (number_at (x.coefficients y) j o.zero l) over.2 in
+        let is : get_or (map n.number (x.coefficients y)) j (n.number o.zero) ≡ n.number (get_or (x.coefficients y) j o.zero) = get_or-map n.number (x.coefficients y) j o.zero (n.number o.zero) l in
+        let small : get_or (map n.number (x.coefficients y)) j (n.number o.zero) < 2 ^ 32 = subst (λ k. k < 2 ^ 32) (sym is) (small_number c) in
+        let at = ap (λ b. little_endian (take 4 (drop (4 * j) b))) (coefficients_words n (x.coefficients y)) ∙ number_at numbers j (n.number o.zero) (subst (λ k. j < k) (sym (length-map (x.coefficients y) n.number)) l) small ∙ is in
+        let big : n.modulus ≤ n.number c = subst (λ k. n.modulus ≤ k) at over.2 in
         let below = N.below c in
         omega arith
 
@@ -188,3 +141,16 @@ module _ {A : Type 0} {o : Ops A} {n : Numbering A} (N : Numbers o n) where
 
     pub read_back : ReadBack n x
     read_back y = (size y, back y)
+
+-- bytes are read by their words
+module _ {A B : Type 0} (n : Numbering A) (x : Extension A B) (ws bytes : List ℕ) (count : length ws ≡ x.degree) (small : All (λ w. w < 2 ^ 32) ws)
+    (whole : words_bytes ws ≡ bytes) where
+  overflows : Any (λ k. n.modulus ≤ k) ws → Overflows n x bytes
+  overflows (j, w, l, is, big) =
+      let at : little_endian (take 4 (drop (4 * j) bytes)) ≡ w =
+      ap (λ b. little_endian (take 4 (drop (4 * j) b))) (sym whole) ∙ number_at ws j w l (All-get_or (λ v. v < 2 ^ 32) ws j w l small) ∙ is in
+      (j, subst (λ k. j < k) count l, subst (λ k. n.modulus ≤ k) (sym at) big)
+
+  pub reads_words : (r : Option B) → ReadsNumbers n x ws r → Reads n x bytes r
+  reads_words (Some y) e = coefficients_words n (x.coefficients y) ∙ ap words_bytes e ∙ whole
+  reads_words None p = ⊎_elim (λ q. absurd (q count)) (λ q. inr (overflows q)) p

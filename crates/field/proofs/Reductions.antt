@@ -10,12 +10,6 @@ rest_of p q r n e l = sym (sym (ap (λ k. k % p) e) ∙ digits_mod q l)
 pub sum_large : (p x y : ℕ) → x < p → y < p → p ≤ x + y → x + y - p ≡ (x + y) % p
 sum_large p x y lx ly g = rest_of p 1 (x + y - p) (x + y) (omega arith) (omega arith)
 
-pub difference_up : (p x y : ℕ) → x < p → y < p → y ≤ x → x - y ≡ (x + (p - y)) % p
-difference_up p x y lx ly g = rest_of p 1 (x - y) (x + (p - y)) (omega arith) (omega arith)
-
-pub difference_down : (p x y : ℕ) → x < p → y < p → x < y → p - (y - x) ≡ (x + (p - y)) % p
-difference_down p x y lx ly g = rest_of p 0 (p - (y - x)) (x + (p - y)) (omega arith) (omega arith)
-
 -- a product of two numbers below p, taken apart at p - 1
 module _ (p x y : ℕ) (large : 1 < p) (lx : x < p) (ly : y < p) where
   abbrev pub high : ℕ

@@ -1,5 +1,6 @@
 -- Elements as bytes: each coefficient in turn, as the four bytes of its number, the lowest first. Assumes nothing.
-use Rattle.std.specs.Prelude.{◌≡◌, ℕ, ◌+◌, ◌*◌, ◌/◌, ◌%◌, ◌<◌, ◌≤◌, ◌⊎◌, List, [], ◌∷◌, ◌++◌, length, take, drop, Some, None, Option, ◌≢◌}
+use Rattle.std.specs.Prelude.{◌≡◌, ℕ, ◌+◌, ◌*◌, ◌/◌, ◌%◌, ◌<◌, ◌≤◌, ◌⊎◌, List, [], ◌∷◌, ◌++◌, map, length, take, drop, Some, None, Option, ◌≢◌}
+use Rattle.std.specs.List.{Any}
 use Rattle.field.specs.Numbers.{Numbering}
 use Rattle.field.specs.Extension.{Extension}
 
@@ -29,6 +30,11 @@ module _ {A : Type 0} (n : Numbering A) where
     abbrev pub Reads : List ℕ → Option B → Type 0
     Reads bytes (Some y) = element_bytes y ≡ bytes
     Reads bytes None = (length bytes ≢ 4 * x.degree) ⊎ Overflows bytes
+
+    -- reading numbers gives the element whose coefficients have them, and refuses another count and a number not below the modulus
+    abbrev pub ReadsNumbers : List ℕ → Option B → Type 0
+    ReadsNumbers numbers (Some y) = map n.number (x.coefficients y) ≡ numbers
+    ReadsNumbers numbers None = (length numbers ≢ x.degree) ⊎ Any (λ k. n.modulus ≤ k) numbers
 
     -- what was written is read as what it was, and is 4 bytes a coefficient
     abbrev pub ReadBack : Type 0

@@ -1,5 +1,7 @@
 -- The pairs over a field are a field. Assumes nothing.
-use Rattle.std.specs.Prelude.{◌≡◌, ◌⊎◌, [], ◌∷◌}
+use Rattle.std.specs.Prelude.{◌≡◌, ◌↔◌, ◌⊎◌, Bool, true, false, ◌&&◌, [], ◌∷◌, refl}
+use Rattle.std.specs.Cmp.Derive.{both_true}
+use Rattle.std.proofs.lemmas.Bool.{both_ways}
 use Rattle.std.proofs.Common.{ap, inl, inr, ⊎_elim}
 use Rattle.ring.specs.Ring.{Ops, IsRing}
 use Rattle.ring.proofs.Basic.{eq_of_sub}
@@ -104,3 +106,15 @@ module _ {A : Type 0} {o : Ops A} where
         pair_path (ring_from L ρ (re v0 v1 O v1 O) (O ⊖ I) (by L I (v1 ⊗ v1) (O ⊖ I) F.imaginary ∷ []) tt) (ring L ρ (im v1 O v1 O) (O ⊖ O) tt);
     decide = decide F;
   }
+
+-- pairs are equal where both of their elements are
+pub pair_same : {A : Type 0} (eq : A → A → Bool) → ((x y : A) → (eq x y ≡ true) ↔ (x ≡ y)) → (x y : Pair A) →
+    ((eq x.a y.a && eq x.b y.b) ≡ true) ↔ (x ≡ y)
+pair_same eq same x y = (
+  λ e. let both = and_true (eq x.a y.a) (eq x.b y.b) e in pair_path ((same x.a y.a).0 both.0) ((same x.b y.b).0 both.1),
+  λ e. both_true ((same x.a y.a).1 (ap (λ p. p.a) e)) ((same x.b y.b).1 (ap (λ p. p.b) e)),
+)
+  where
+    and_true : (s t : Bool) → (s && t) ≡ true → (s ≡ true) × (t ≡ true)
+    and_true true t e = (refl, e)
+    and_true false t e = absurd (both_ways false refl e)

@@ -1,12 +1,13 @@
 -- The numbers below a modulus are a ring, and a field where a test passes at each of them. Assumes nothing.
-use Rattle.std.specs.Prelude.{◌≡◌, ℕ, zero, suc, ◌+◌, ◌-◌, ◌*◌, ◌/◌, ◌%◌, ◌^◌, ◌<◌, ◌≤◌, Bool, true, false, ◌&&◌, T, ◌≢◌, ◌⊎◌, [], ◌∷◌, ◌==◌, nat_eq}
+use Rattle.std.specs.Prelude.{◌≡◌, ℕ, zero, suc, ◌+◌, ◌-◌, ◌*◌, ◌/◌, ◌%◌, ◌^◌, ◌<◌, ◌≤◌, Bool, true, false, ◌&&◌, T, ◌≢◌, ◌⊎◌, ◌↔◌, [], ◌∷◌, ◌==◌, nat_eq}
 use Rattle.std.proofs.Math.Path.{refl, sym, ap}
 use Rattle.std.proofs.Common.{ap₂, subst, ◌∙◌, inl, inr, ⊎_elim, arith, add_assoc, add_comm, add-zero, add-mul, mul_assoc, mul_comm, mul-one, mul-add}
 use mathlib.Core.HLevel.{is_prop→PathP}
 use Rattle.std.proofs.Math.Bridge.{le_prop}
 use Rattle.std.proofs.Math.Decide.{ℕ_discrete, dec_lt}
 use Rattle.std.proofs.Math.Nat.{mod-eq_of_lt, mod-add-mod, add-mod-mod, mod-add-div, add-mod_right, add-mul-mod_self_left, zero-mod, two-pow-succ}
-use Rattle.std.proofs.Math.Dec.{eqb→eq, eqb_refl}
+use Rattle.std.proofs.Math.Dec.{eqb→eq}
+use Rattle.std.proofs.lemmas.Bool.{eqb-true, eq-eqb}
 use Rattle.ring.specs.Ring.{Ops, IsRing}
 use Rattle.ring.proofs.Basic.{mul-zero as ring-mul-zero}
 use Rattle.ring.proofs.Solve.{ring, v0, v1, ◌⊗◌}
@@ -61,6 +62,14 @@ at (suc d) b f t x l h =
     let w = two-pow-succ d in
     pick (dec_lt x (b + 2 ^ d)) (λ low. at d b f (and_left (every d b f) (every d (b + 2 ^ d) f) t) x l low)
     (λ high. at d (b + 2 ^ d) f (and_right (every d b f) (every d (b + 2 ^ d) f) t) x (omega arith) (omega arith))
+
+pub fermat_at : (p k x : ℕ) → T (fermat p k) → x ≢ 0 → x ≤ 2 ^ k → squared p k x ≡ 1
+unfolding fermat
+fermat_at p k x test n l = eqb→eq _ _ (at k 1 (λ y. nat_eq (squared p k y) 1) test x (omega arith) (omega arith))
+
+pub squared-zero : (p k : ℕ) → squared p k 0 ≡ 0
+squared-zero p zero = refl
+squared-zero p (suc k) = ap (squared p k) (zero-mod p) ∙ squared-zero p k
 
 module _ (p : ℕ) (h : 0 < p) (s i : ℕ) where
   abbrev o : Ops (Residue p)
@@ -134,12 +143,9 @@ module _ (p : ℕ) (h : 0 < p) (s i : ℕ) where
     one_not_zero e = let f : 1 % p ≡ 0 % p = ap (λ r. r.value) e in let a = mod-eq_of_lt large in let b = zero-mod p in omega arith
 
     unit : (x : Residue p) → x ≢ o.zero → sqr (suc j) x ≡ o.one
-    unfolding fermat
     unit x n =
-        let k : x.value ≢ 0 = λ e. n (is_zero x e) in
         let l = x.below in
-        residue_path
-        (sqr_value (suc j) x ∙ eqb→eq _ _ (at (suc j) 1 (λ y. nat_eq (squared p (suc j) y) 1) test x.value (omega arith) (omega arith)) ∙ sym (mod-eq_of_lt large))
+        residue_path (sqr_value (suc j) x ∙ fermat_at p (suc j) x.value test (λ e. n (is_zero x e)) (omega arith) ∙ sym (mod-eq_of_lt large))
 
     no_divisors : (x y : Residue p) → o.mul x y ≡ o.zero → (x ≡ o.zero) ⊎ (y ≡ o.zero)
     no_divisors x y e =
@@ -183,5 +189,6 @@ module _ (p : ℕ) (h : 0 < p) (s i : ℕ) where
       decide = decide;
     }
 
-pub eqb_of : {p : ℕ} (x y : Residue p) → x ≡ y → T (x.value == y.value)
-eqb_of x y e = subst (λ n. T (x.value == n)) (ap (λ r. r.value) e) (eqb_refl x.value)
+-- residues are equal where their numbers are
+pub residue_same : {p : ℕ} (x y : Residue p) → ((x.value == y.value) ≡ true) ↔ (x ≡ y)
+residue_same x y = (λ e. residue_path (eqb-true x.value y.value e), λ e. eq-eqb x.value y.value (ap (λ r. r.value) e))

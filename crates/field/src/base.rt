@@ -1,137 +1,140 @@
-ghost use Rattle.std.specs.Prelude.{◌≡◌, ◌+◌, ◌-◌, ◌*◌, ◌<◌, T, if◌then◌else◌, Some, None, nat_lt};
-ghost use Rattle.field.specs.Residues.{reduce, ops_257, ops_65537, numbering_257, numbering_65537};
-ghost use Rattle.field.specs.Primes.{field_257, numbers_257, field_65537, numbers_65537};
+ghost use Rattle.std.specs.Prelude.{◌≡◌, ℕ, ◌+◌, ◌-◌, ◌*◌, ◌<◌, if◌then◌else◌, Some, None, nat_lt};
+ghost use Rattle.field.specs.Residues.{reduce, residue_ops, residue_numbering};
+ghost use Rattle.field.specs.Primes.{IsFermatPrime, prime_field, prime_numbers, prime_257, prime_65537};
+ghost use Rattle.field.specs.ResiduesLemmas.{residue_same};
 
 use crate::residue::Residue;
 use crate::{BaseField, Field};
 
-impl Field for Residue<257> {
-    ghost ops = { ops_257 };
+// A prime P = 1 + 2^EXPONENT, with ROOT, whose square is minus one modulo P.
+pub trait FermatPrime<const P: u32> {
+    ghost EXPONENT: { ℕ };
 
-    ghost lawful = { field_257 };
+    ghost ROOT: { ℕ };
 
-    fn zero() -> Residue<257> {
-        reduced(0)
-    }
+    ghost prime: { IsFermatPrime P EXPONENT ROOT };
 
-    fn one() -> Residue<257> {
-        reduced(1)
-    }
+    const EXPONENT: usize;
 
-    fn nonresidue() -> Residue<257> {
-        reduced(3)
-    }
-
-    fn imaginary() -> Residue<257> {
-        reduced(16)
-    }
-
-    fn add(self, other: Residue<257>) -> Residue<257> {
-        sum(self, other)
-    }
-
-    fn sub(self, other: Residue<257>) -> Residue<257> {
-        difference(self, other)
-    }
-
-    fn mul(self, other: Residue<257>) -> Residue<257> {
-        product(self, other)
-    }
-
-    fn equal(self, other: Residue<257>) -> bool {
-        same(self, other)
-    }
+    const ROOT: u32;
 }
 
-impl BaseField for Residue<257> {
-    ghost numbering = { numbering_257 };
+impl FermatPrime<257> for Residue<257> {
+    ghost EXPONENT = { 8 };
 
-    ghost numbered = { numbers_257 };
+    ghost ROOT = { 16 };
 
-    fn modulus() -> u32 {
-        257
-    }
+    ghost prime = { prime_257 };
 
-    fn new(value: u32) -> Option<Residue<257>> {
-        checked(value)
-    }
+    const EXPONENT: usize = 8;
 
-    fn from_word(word: u32) -> Residue<257> {
-        reduced(word)
-    }
-
-    fn number(self) -> u32 {
-        self.value
-    }
+    const ROOT: u32 = 16;
 }
 
-impl Field for Residue<65537> {
-    ghost ops = { ops_65537 };
+impl FermatPrime<65537> for Residue<65537> {
+    ghost EXPONENT = { 16 };
 
-    ghost lawful = { field_65537 };
+    ghost ROOT = { 256 };
 
-    fn zero() -> Residue<65537> {
-        reduced(0)
-    }
+    ghost prime = { prime_65537 };
 
-    fn one() -> Residue<65537> {
-        reduced(1)
-    }
+    const EXPONENT: usize = 16;
 
-    fn nonresidue() -> Residue<65537> {
-        reduced(3)
-    }
-
-    fn imaginary() -> Residue<65537> {
-        reduced(256)
-    }
-
-    fn add(self, other: Residue<65537>) -> Residue<65537> {
-        sum(self, other)
-    }
-
-    fn sub(self, other: Residue<65537>) -> Residue<65537> {
-        difference(self, other)
-    }
-
-    fn mul(self, other: Residue<65537>) -> Residue<65537> {
-        product(self, other)
-    }
-
-    fn equal(self, other: Residue<65537>) -> bool {
-        same(self, other)
-    }
+    const ROOT: u32 = 256;
 }
 
-impl BaseField for Residue<65537> {
-    ghost numbering = { numbering_65537 };
-
-    ghost numbered = { numbers_65537 };
-
-    fn modulus() -> u32 {
-        65537
-    }
-
-    fn new(value: u32) -> Option<Residue<65537>> {
-        checked(value)
-    }
-
-    fn from_word(word: u32) -> Residue<65537> {
-        reduced(word)
-    }
-
-    fn number(self) -> u32 {
-        self.value
-    }
-}
-
-fn checked<const P: u32>(value: u32) -> Option<Residue<P>>
-    ensures { (h : 0 < P) → result ≡ (if nat_lt value P then Some (reduce P h value) else None) }
+impl<const P: u32> Field for Residue<P>
+where
+    Residue<P>: FermatPrime<P>,
 {
-    if value < P {
-        Some(Residue { value })
-    } else {
-        None
+    ghost ops = { residue_ops P ⟦<Residue<P> as FermatPrime<P>>⟧.prime.positive 3 ⟦<Residue<P> as FermatPrime<P>>⟧.ROOT };
+
+    ghost lawful = { prime_field ⟦<Residue<P> as FermatPrime<P>>⟧.prime };
+
+    ghost same = { residue_same };
+
+    fn zero() -> Residue<P> {
+        reduced(0)
+    }
+
+    fn one() -> Residue<P> {
+        reduced(1)
+    }
+
+    fn nonresidue() -> Residue<P> {
+        reduced(3)
+    }
+
+    fn imaginary() -> Residue<P> {
+        reduced(<Residue<P> as FermatPrime<P>>::ROOT)
+    }
+
+    // The sum is below twice the modulus.
+    fn add(self, other: Residue<P>) -> Residue<P> {
+        let total = self.value as u64 + other.value as u64;
+        let modulus = P as u64;
+        let value = if total < modulus {
+            total
+        } else {
+            total - modulus
+        };
+        Residue {
+            value: value as u32,
+        }
+    }
+
+    fn sub(self, other: Residue<P>) -> Residue<P> {
+        let value = if other.value <= self.value {
+            self.value - other.value
+        } else {
+            P - (other.value - self.value)
+        };
+        Residue { value }
+    }
+
+    // A product h (P - 1) + l is h P + (l - h). P - 1 is a power of two, so nothing is divided.
+    fn mul(self, other: Residue<P>) -> Residue<P> {
+        let whole = self.value as u64 * other.value as u64;
+        let power = P as u64 - 1;
+        let high = whole / power;
+        let low = whole % power;
+        let value = if high <= low {
+            low - high
+        } else {
+            low + P as u64 - high
+        };
+        Residue {
+            value: value as u32,
+        }
+    }
+}
+
+impl<const P: u32> BaseField for Residue<P>
+where
+    Residue<P>: FermatPrime<P>,
+{
+    ghost numbering = { residue_numbering P ⟦<Residue<P> as FermatPrime<P>>⟧.prime.positive };
+
+    ghost numbered = { prime_numbers ⟦<Residue<P> as FermatPrime<P>>⟧.prime };
+
+    fn modulus() -> u32 {
+        P
+    }
+
+    fn new(value: u32) -> Option<Residue<P>> {
+        if value < P {
+            Some(Residue { value })
+        } else {
+            None
+        }
+    }
+
+    fn from_word(word: u32) -> Residue<P> {
+        reduced(word)
+    }
+
+    fn number(self) -> u32 {
+        self.value
     }
 }
 
@@ -140,57 +143,4 @@ fn reduced<const P: u32>(word: u32) -> Residue<P>
     ensures { (h : 0 < P) → result ≡ reduce P h word }
 {
     Residue { value: word % P }
-}
-
-// The sum is below twice the modulus.
-fn sum<const P: u32>(x: Residue<P>, y: Residue<P>) -> Residue<P>
-    ensures { (h : 0 < P) → result ≡ reduce P h (x.entry.value + y.entry.value) }
-{
-    let total = x.value as u64 + y.value as u64;
-    let modulus = P as u64;
-    let value = if total < modulus {
-        total
-    } else {
-        total - modulus
-    };
-    Residue {
-        value: value as u32,
-    }
-}
-
-fn difference<const P: u32>(x: Residue<P>, y: Residue<P>) -> Residue<P>
-    ensures { (h : 0 < P) → result ≡ reduce P h (x.entry.value + (P - y.entry.value)) }
-{
-    let value = if y.value <= x.value {
-        x.value - y.value
-    } else {
-        P - (y.value - x.value)
-    };
-    Residue { value }
-}
-
-// A product h (P - 1) + l is h P + (l - h). P - 1 is a power of two at both moduli, so nothing is divided.
-fn product<const P: u32>(x: Residue<P>, y: Residue<P>) -> Residue<P>
-    requires { 1 < P }
-    ensures { (h : 0 < P) → result ≡ reduce P h (x.entry.value * y.entry.value) }
-{
-    let whole = x.value as u64 * y.value as u64;
-    let power = P as u64 - 1;
-    let high = whole / power;
-    let low = whole % power;
-    let value = if high <= low {
-        low - high
-    } else {
-        low + P as u64 - high
-    };
-    Residue {
-        value: value as u32,
-    }
-}
-
-fn same<const P: u32>(x: Residue<P>, y: Residue<P>) -> bool
-    ensures yes { T result → x.entry ≡ y.entry }
-    ensures no { x.entry ≡ y.entry → T result }
-{
-    x.value == y.value
 }

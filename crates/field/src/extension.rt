@@ -30,6 +30,7 @@ impl<F: Field> ExtensionField<F> for F {
     }
 }
 
+// Kept: one block for Pair<E> over any extension E would overlap with the block above, and would have no largest degree.
 impl<F: Field> ExtensionField<F> for Pair<F> {
     ghost extension = { doubled F.Field.ops (itself F.Field.ops) };
 
@@ -38,7 +39,7 @@ impl<F: Field> ExtensionField<F> for Pair<F> {
     ghost sized = { sized_2 };
 
     fn embed(x: F) -> Pair<F> {
-        embed_pair::<F, F>(x)
+        embed_pair(x)
     }
 
     fn degree() -> usize {
@@ -46,11 +47,11 @@ impl<F: Field> ExtensionField<F> for Pair<F> {
     }
 
     fn coefficient(self, index: usize) -> F {
-        pair_coefficient::<F, F>(self, index)
+        pair_coefficient(self, index)
     }
 
     fn with_coefficient(self, index: usize, x: F) -> Pair<F> {
-        pair_with_coefficient::<F, F>(self, index, x)
+        pair_with_coefficient(self, index, x)
     }
 }
 
@@ -62,7 +63,7 @@ impl<F: Field> ExtensionField<F> for Pair<Pair<F>> {
     ghost sized = { sized_4 };
 
     fn embed(x: F) -> Pair<Pair<F>> {
-        embed_pair::<F, Pair<F>>(x)
+        embed_pair(x)
     }
 
     fn degree() -> usize {
@@ -70,11 +71,11 @@ impl<F: Field> ExtensionField<F> for Pair<Pair<F>> {
     }
 
     fn coefficient(self, index: usize) -> F {
-        pair_coefficient::<F, Pair<F>>(self, index)
+        pair_coefficient(self, index)
     }
 
     fn with_coefficient(self, index: usize, x: F) -> Pair<Pair<F>> {
-        pair_with_coefficient::<F, Pair<F>>(self, index, x)
+        pair_with_coefficient(self, index, x)
     }
 }
 
@@ -86,7 +87,7 @@ impl<F: Field> ExtensionField<F> for Pair<Pair<Pair<F>>> {
     ghost sized = { sized_8 };
 
     fn embed(x: F) -> Pair<Pair<Pair<F>>> {
-        embed_pair::<F, Pair<Pair<F>>>(x)
+        embed_pair(x)
     }
 
     fn degree() -> usize {
@@ -94,11 +95,11 @@ impl<F: Field> ExtensionField<F> for Pair<Pair<Pair<F>>> {
     }
 
     fn coefficient(self, index: usize) -> F {
-        pair_coefficient::<F, Pair<Pair<F>>>(self, index)
+        pair_coefficient(self, index)
     }
 
     fn with_coefficient(self, index: usize, x: F) -> Pair<Pair<Pair<F>>> {
-        pair_with_coefficient::<F, Pair<Pair<F>>>(self, index, x)
+        pair_with_coefficient(self, index, x)
     }
 }
 

@@ -1,6 +1,6 @@
 #![tactic(auto)]
 
-ghost use Rattle.std.specs.Prelude.{◌≡◌, T, if◌then◌else◌, Some, None, nat_lt, slice_index_or, slice_set};
+ghost use Rattle.std.specs.Prelude.{◌≡◌, ◌↔◌, true, if◌then◌else◌, Some, None, nat_lt, slice_index_or, slice_set};
 ghost use Rattle.ring.specs.Ring.{Ops};
 ghost use Rattle.field.specs.Laws.{IsField};
 ghost use Rattle.field.specs.Numbers.{Numbering, Numbers};
@@ -15,7 +15,7 @@ pub mod theorems;
 pub mod tower;
 
 // Operations that are those of a field, with s, of which no element is the square, and i, whose square is minus one.
-pub trait Field: Copy {
+pub trait Field: Copy + Eq {
     ghost ops: { Ops Self };
 
     fn zero() -> Self
@@ -39,11 +39,10 @@ pub trait Field: Copy {
     fn mul(self, other: Self) -> Self
         ensures { result ≡ ops.mul self other };
 
-    fn equal(self, other: Self) -> bool
-        ensures yes { T result → self ≡ other }
-        ensures no { self ≡ other → T result };
-
     ghost lawful: { IsField ops };
+
+    // Elements are equal where `==` says so.
+    ghost same: { (x y : Self) → (Self.PartialEq.eq x y ≡ true) ↔ (x ≡ y) };
 }
 
 // A field whose elements are the numbers below a modulus.

@@ -1,6 +1,6 @@
 ghost use Rattle.std.specs.Prelude.{◌≡◌};
 ghost use Rattle.field.specs.Tower.{pair_ops};
-ghost use Rattle.field.specs.Pairs.{pair_field};
+ghost use Rattle.field.specs.Pairs.{pair_field, pair_same};
 
 use crate::Field;
 use crate::pair::Pair;
@@ -9,6 +9,8 @@ impl<F: Field> Field for Pair<F> {
     ghost ops = { pair_ops F.Field.ops };
 
     ghost lawful = { pair_field F.Field.lawful };
+
+    ghost same = { pair_same F.PartialEq.eq F.Field.same };
 
     fn zero() -> Pair<F> {
         Pair {
@@ -58,9 +60,5 @@ impl<F: Field> Field for Pair<F> {
             a: self.a.mul(other.a).add(shifted),
             b: self.a.mul(other.b).add(self.b.mul(other.a)),
         }
-    }
-
-    fn equal(self, other: Pair<F>) -> bool {
-        self.a.equal(other.a) && self.b.equal(other.b)
     }
 }

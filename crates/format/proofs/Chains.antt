@@ -1,9 +1,11 @@
 -- Parts read one after another.
 use Rattle.std.proofs.Common.{◌≡◌, ℕ, List, Ok, Err, Result, sym, ap, subst}
+use Rattle.std.specs.Prelude.{IsErrAnd}
+use Rattle.std.proofs.lemmas.Result.{err_from_is_err_and}
 use Rattle.format.specs.declared.errors.Expected.{Expected}
 use Rattle.format.specs.declared.errors.Fault.{Fault}
 use Rattle.format.specs.declared.errors.Fault.TheVariants.{Syntax, OutOfMemory}
-use Rattle.format.specs.Reading.{Read, found, stuck, then, Stands, Gives, the_word}
+use Rattle.format.specs.Reading.{Read, found, stuck, then, Stands, Gives}
 
 pub then_found : {X Y : Type 0} {p : Read X} {x : X} {rest : List ℕ} (next : X → List ℕ → Read Y) → p ≡ found x rest → then p next ≡ next x rest
 unfolding then
@@ -23,14 +25,11 @@ pub follows : {W X Y Z : Type 0} {first : W → X} {meaning : Z → Y} {p : Read
     (next : X → List ℕ → Read Y) → Gives first p (Ok x) rest → Gives meaning (next (first x) rest) r end → Gives meaning (then p next) r end
 follows {meaning = m} {end = end} {r = r} next e g = subst (λ q. Gives m q r end) (sym (then_found next e.stands)) g
 
--- the first part was not read, and its fault is the answer
-pub breaks : {W X Y Z : Type 0} {first : W → X} {meaning : Z → Y} {p : Read X} {d : Fault} {rest : List ℕ}
-    (next : X → List ℕ → Read Y) → Gives first p (Err d) rest → Gives meaning (then p next) (Err d) rest
-breaks {first = f} {meaning = m} {p = p} {d = d} {rest = rest} next g = record { stands = broken f m p d rest next g.stands }
-
-pub same_word : {Z : Type 0} {meaning : Z → Unit} {r : Result Z Fault} {rest : List ℕ} (ws vs : List ℕ) (e : Expected) (bs : List ℕ)
-    → ws ≡ vs → Gives meaning (the_word ws e bs) r rest → Gives meaning (the_word vs e bs) r rest
-same_word {meaning = m} {r = r} {rest = rest} ws vs e bs h g = subst (λ us. Gives m (the_word us e bs) r rest) h g
+-- the first part was not read, and a `?` hands its fault on as the answer
+pub breaks : {W X Y Z : Type 0} {first : W → X} {meaning : Z → Y} {p : Read X} {d : Fault} {rest : List ℕ} {r : Result Z Fault}
+    (next : X → List ℕ → Read Y) → Gives first p (Err d) rest → IsErrAnd r (λ e. e ≡ d) → Gives meaning (then p next) r rest
+breaks {first = f} {meaning = m} {p = p} {d = d} {rest = rest} {r = r} next g h =
+    let b = err_from_is_err_and r h in rw (b.1, b.2) (record { stands = broken f m p d rest next g.stands })
 
 -- what another definition gives
 pub same_reading : {Y Z : Type 0} {meaning : Z → Y} {p q : Read Y} {r : Result Z Fault} {rest : List ℕ} → p ≡ q → Gives meaning q r rest → Gives meaning p r rest

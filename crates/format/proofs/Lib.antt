@@ -3,6 +3,5 @@ pub mod Words
 pub mod Digits
 pub mod Lists
 pub mod Strategies
-pub mod Feeds
 pub mod Outcomes
 pub mod Written

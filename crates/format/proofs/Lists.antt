@@ -1,11 +1,12 @@
 -- Items read one after another.
-use Rattle.std.proofs.Common.{◌≡◌, ℕ, zero, suc, ◌+◌, ◌-◌, ◌<◌, ◌≤◌, List, [], ◌∷◌, ◌++◌, length, Err, sym, refl, ap, ◌∙◌, append_assoc, add-one, arith}
+use Rattle.std.proofs.Common.{◌≡◌, ℕ, suc, ◌+◌, ◌-◌, ◌<◌, ◌≤◌, List, [], ◌∷◌, ◌++◌, Ok, Err, Result, sym, refl, ap, ◌∙◌, append_assoc, add-one, arith}
+use Rattle.std.specs.Prelude.{IsErrAnd}
+use Rattle.std.proofs.lemmas.Result.{err_from_is_err_and}
 use Rattle.format.specs.declared.errors.Expected.{Expected}
-use Rattle.format.specs.Reading.{Read, found, stuck, then, each, next_number, numbers_listed, Stands, Gives}
+use Rattle.format.specs.Reading.{Read, found, stuck, then, each, plain, Stands, Gives}
 use Rattle.format.specs.declared.errors.Fault.{Fault}
 use Rattle.format.specs.declared.errors.Fault.TheVariants.{Syntax, OutOfMemory}
-use Rattle.format.specs.Lines.{round_of}
-use Rattle.format.proofs.Chains.{then_found, then_stuck}
+use Rattle.format.proofs.Chains.{then_found, then_stuck, breaks, same_reading}
 
 -- the items so far, and then the others
 unfoldable pub onto : {X : Type 0} → List X → Read (List X) → Read (List X)
@@ -42,6 +43,13 @@ onto_found done rest = refl
 append_none : {X : Type 0} (xs : List X) → xs ++ [] ≡ xs
 append_none [] = refl
 append_none (x ∷ xs) = ap (λ ys. x ∷ ys) (append_none xs)
+
+-- one item before the others, and then what follows
+then_inner : {X Y : Type 0} (x : X) (next : List X → List ℕ → Read Y) (p : Read (List X))
+    → then (then p (λ xs end. found (x ∷ xs) end)) next ≡ then p (λ xs end. next (x ∷ xs) end)
+unfolding then
+then_inner x next (found xs rest) = refl
+then_inner x next (stuck e rest) = refl
 
 -- i items are read, and what is left leads to the whole
 abbrev pub Leads : {X : Type 0} → (ℕ → List ℕ → Read X) → ℕ → List ℕ → ℕ → List X → List ℕ → Type 0
@@ -88,37 +96,27 @@ broken : {W X Z : Type 0} (first : W → X) (meaning : Z → List X) (item : ℕ
 broken first meaning item count bs i done now (Syntax e) rest inv h g = leads_stuck item count bs i done now e rest inv h g
 broken first meaning item count bs i done now OutOfMemory rest inv h g = tt
 
--- an item was not read, and its fault is the answer
-pub leads_breaks : {W X Z : Type 0} {first : W → X} {meaning : Z → List X} {d : Fault} {rest : List ℕ} (item : ℕ → List ℕ → Read X) (count : ℕ) (bs : List ℕ)
-    (i : ℕ) (done : List X) (now : List ℕ) → Leads item count bs i done now → i < count → Gives first (item i now) (Err d) rest
-    → Gives meaning (each item 0 count bs) (Err d) rest
-leads_breaks {first = f} {meaning = m} {d = d} {rest = rest} item count bs i done now inv h g =
-    record { stands = broken f m item count bs i done now d rest inv h g.stands }
+-- an item was not read, and a `?` hands its fault on as the answer
+pub leads_breaks : {W X Z : Type 0} {first : W → X} {meaning : Z → List X} {d : Fault} {rest : List ℕ} {r : Result Z Fault} (item : ℕ → List ℕ → Read X)
+    (count : ℕ) (bs : List ℕ) (i : ℕ) (done : List X) (now : List ℕ) → Leads item count bs i done now → i < count → Gives first (item i now) (Err d) rest
+    → IsErrAnd r (λ e. e ≡ d) → Gives meaning (each item 0 count bs) r rest
+leads_breaks {first = f} {meaning = m} {d = d} {rest = rest} {r = r} item count bs i done now inv h g e =
+    let b = err_from_is_err_and r e in rw (b.1, b.2) (record { stands = broken f m item count bs i done now d rest inv h g.stands })
 
--- as many items are found as were to be
-found_after : {X : Type 0} (x : X) (k : ℕ) (p : Read (List X)) (xs : List X) (rest : List ℕ) → ((ys : List X) (end : List ℕ) → p ≡ found ys end → length ys ≡ k)
-    → then p (λ zs end. found (x ∷ zs) end) ≡ found xs rest → length xs ≡ suc k
-unfolding then
-found_after x k (found ys end) xs rest h e =
-    let same : x ∷ ys ≡ xs = cc in ap length (sym same) ∙ ap suc (h ys end refl)
-found_after x k (stuck f end) xs rest h e = let z : ◌≡◌ {A = ℕ} 0 1 = cc in absurd (omega arith)
+-- an item was read, and the answer is that of the others
+pub item_follows : {X Y Z : Type 0} {meaning : Z → Y} {bs : List ℕ} {x : X} {rest end : List ℕ} {r : Result Z Fault}
+    (item : ℕ → List ℕ → Read X) (next : List X → List ℕ → Read Y) (i k : ℕ) → Gives plain (item i bs) (Ok x) rest
+    → Gives meaning (then (each item (suc i) k rest) (λ xs b. next (x ∷ xs) b)) r end → Gives meaning (then (each item i (suc k) bs) next) r end
+item_follows {bs = bs} {x = x} {rest = rest} item next i k e g =
+    same_reading (ap (λ q. then q next) (each_suc item i k bs ∙ then_found _ e.stands) ∙ then_inner x next (each item (suc i) k rest)) g
 
-found_one : {X : Type 0} (k : ℕ) (p : Read X) (next : List ℕ → Read (List X)) (xs : List X) (rest : List ℕ)
-    → ((b : List ℕ) (ys : List X) (end : List ℕ) → next b ≡ found ys end → length ys ≡ k)
-    → then p (λ x b. then (next b) (λ zs end. found (x ∷ zs) end)) ≡ found xs rest → length xs ≡ suc k
-unfolding then
-found_one k (found x b) next xs rest h e = found_after x k (next b) xs rest (h b) e
-found_one k (stuck f end) next xs rest h e = let z : ◌≡◌ {A = ℕ} 0 1 = cc in absurd (omega arith)
+pub item_breaks : {X Y Z : Type 0} {meaning : Z → Y} {bs : List ℕ} {d : Fault} {rest : List ℕ} {r : Result Z Fault}
+    (item : ℕ → List ℕ → Read X) (next : List X → List ℕ → Read Y) (i k : ℕ) → Gives plain (item i bs) (Err d) rest → IsErrAnd r (λ e. e ≡ d)
+    → Gives meaning (then (each item i (suc k) bs) next) r rest
+item_breaks {bs = bs} {rest = rest} item next i k e h =
+    same_reading (ap (λ q. then q next) (each_suc item i k bs)) (breaks next (breaks {meaning = plain} {r = Err _} _ e refl) h)
 
-pub each_length : {X : Type 0} (item : ℕ → List ℕ → Read X) (i k : ℕ) (bs : List ℕ) (xs : List X) (rest : List ℕ) → each item i k bs ≡ found xs rest → length xs ≡ k
-each_length item i zero bs xs rest e = let same : [] ≡ xs = cc (each_zero item i bs) in ap length (sym same)
-each_length item i (suc k) bs xs rest e =
-    found_one k (item i bs) (λ b. each item (suc i) k b) xs rest (λ b ys end. each_length item (suc i) k b ys end) (sym (each_suc item i k bs) ∙ e)
-
-pub within_nine : (k : ℕ) {xs ys rest : List ℕ} (bs : List ℕ) → numbers_listed 9 bs ≡ found xs rest → ys ≡ xs → k < 9 → k < length ys
-unfolding numbers_listed
-within_nine k {xs = xs} {rest = rest} bs e v h =
-    let n = each_length (λ _. next_number) 0 9 bs xs rest e in let m = ap length v in omega (arith, n, m)
-
-pub round_from : (xs ys rest : List ℕ) → ys ≡ xs → found (round_of xs) rest ≡ found (round_of ys) rest
-round_from xs ys rest e = ap (λ zs. found (round_of zs) rest) (sym e)
+-- no item is left
+pub items_end : {X Y Z : Type 0} {meaning : Z → Y} {bs end : List ℕ} {r : Result Z Fault}
+    (item : ℕ → List ℕ → Read X) (next : List X → List ℕ → Read Y) (i : ℕ) → Gives meaning (next [] bs) r end → Gives meaning (then (each item i 0 bs) next) r end
+items_end {bs = bs} item next i g = same_reading (then_found next (each_zero item i bs)) g

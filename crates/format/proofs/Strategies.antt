@@ -5,10 +5,6 @@ use Rattle.format.specs.declared.errors.Expected.TheVariants as expected
 use Rattle.format.specs.Reading.{stuck, begins}
 use Rattle.format.specs.Lines.{strategy, constant_behind, second_behind, listed_behind}
 
--- the bytes left after a word was looked for
-abbrev pub Missed : List ℕ → List ℕ → List ℕ → Type 0
-Missed word bs rest = (begins word bs ≡ false) × (rest ≡ bs)
-
 pub is_constant : (bs rest : List ℕ) → begins (codes " constant") bs ≡ true → rest ≡ drop 9 bs → strategy bs ≡ constant_behind rest
 unfolding strategy
 is_constant bs rest t r = cond-true (begins (codes " constant") bs) _ _ t ∙ ap constant_behind (sym r)

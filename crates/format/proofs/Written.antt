@@ -12,9 +12,9 @@ use Rattle.format.specs.declared.errors.Expected.TheVariants as expected
 use Rattle.format.specs.declared.keys.Key.{Key}
 use Rattle.format.specs.declared.keys.Key.TheVariants as key
 use Rattle.format.specs.Words.{letters}
-use Rattle.format.specs.Reading.{Read, found, stuck, then, begins, the_word, the_key, blank, line_end, is_digit, digit_count, value_after, number, next_number, each, numbers_listed, list}
-use Rattle.format.specs.Lines.{line, byte_item, bytes_listed, byte_list, flag, line_index, strategy, constant_behind, second_behind, listed_behind, round, rounds_listed, rounds, terminal_of}
-use Rattle.format.specs.Configurations.{domain_part, parameter_part, phase_part, final_part, configuration_lines}
+use Rattle.format.specs.Reading.{Read, found, stuck, then, begins, the_word, the_key, blank, line_end, is_digit, digit_count, value_after, number, next_number, each, numbers_listed, list_of, list}
+use Rattle.format.specs.Lines.{line, byte_item, byte_list, flag, line_index, strategy, constant_behind, second_behind, listed_behind, round, rounds_listed, rounds, terminal_of}
+use Rattle.format.specs.Configurations.{configuration_lines}
 use Rattle.format.specs.Written.{spaced, all_text, spaced_all, listed, line_of_text, flag_text, strategy_text, fields, round_text, number_text, written, Held, ReadsBack, WrittenApart}
 use Rattle.format.proofs.Chains.{then_found}
 use Rattle.format.proofs.Words.{word_there}
@@ -38,15 +38,12 @@ word_back : (ws : List ℕ) (e : Expected) (bs : List ℕ) → the_word ws e (ws
 word_back ws e bs = word_there ws e (ws ++ bs) (begins_own ws bs) ∙ ap (found tt) (drop_own ws bs)
 
 key_back : (k : Key) (bs : List ℕ) → the_key k (letters k ++ bs) ≡ found tt bs
-unfolding the_key
 key_back k bs = word_back (letters k) (expected.Word k) bs
 
 blank_back : (bs : List ℕ) → blank (32 ∷ bs) ≡ found tt bs
-unfolding blank
 blank_back bs = word_back (32 ∷ []) expected.Blank bs
 
 end_back : (bs : List ℕ) → line_end (10 ∷ bs) ≡ found tt bs
-unfolding line_end
 end_back bs = word_back (10 ∷ []) expected.LineEnd bs
 
 value_append : (ds es : List ℕ) (m : ℕ) → value_after m (ds ++ es) ≡ value_after (value_after m ds) es
@@ -66,7 +63,7 @@ digit n h =
     and_from _ _ (le-leb _ _ low) (le-leb _ _ high)
 
 digit_more : (n : ℕ) (bs : List ℕ) → n < 10 → digit_count ((48 + n) ∷ bs) ≡ digit_count bs + 1
-digit_more n bs h = cond-true (is_digit (48 + n)) _ _ (digit n h)
+digit_more n bs h = cond-true (is_digit (48 + n)) _ _ (digit n h) ∙ omega arith
 
 spelled : (n : ℕ) → n < 2 ^ 64 → Spelled n (decimal n)
 spelled =
@@ -126,9 +123,9 @@ numbers_back xs more h a e =
     (omega arith) a e
 
 list_back : (xs more : List ℕ) → Held (length xs) → AllByRecursion Held xs → Clean more → list (listed xs more) ≡ found xs more
-unfolding list
+unfolding list_of numbers_listed
 list_back xs more h a e =
-    then_found (λ count rest. numbers_listed count rest)
+    then_found (λ count rest. each (λ _. next_number) 0 count rest)
     (next_back (length xs) (spaced_all xs more) h (cleaned (λ _ x. spaced x) (λ i x rest. refl) 0 xs more e))
     ∙ numbers_back xs more h a e
 
@@ -139,9 +136,9 @@ byte_back b bs h e =
     ∙ cond-true (ltb b 256) _ _ (lt-ltb _ _ h)
 
 byte_list_back : (xs more : List ℕ) → Held (length xs) → AllByRecursion (λ b. b < 256) xs → Clean more → byte_list (listed xs more) ≡ found xs more
-unfolding byte_list bytes_listed
+unfolding list_of
 byte_list_back xs more h a e =
-    then_found (λ count rest. bytes_listed count rest)
+    then_found (λ count rest. each (λ _. byte_item) 0 count rest)
     (next_back (length xs) (spaced_all xs more) h (cleaned (λ _ x. spaced x) (λ i x rest. refl) 0 xs more e))
     ∙ each_back (λ _. byte_item) (λ _ x. spaced x) (λ b. b < 256) (2 ^ 64) (λ i x rest _ held clean. byte_back x rest held clean) (λ i x rest. refl) 0 xs more
     (omega arith) a e
@@ -209,28 +206,28 @@ terminal_back q d more h k =
     (then_found _ (next_back q (spaced d (10 ∷ more)) h refl) ∙ then_found _ (next_back d (10 ∷ more) k refl))
 
 pub reads_back : ReadsBack
-unfolding written configuration_lines domain_part parameter_part phase_part final_part
+unfolding written configuration_lines
 reads_back N more s =
     let n = s.numbers in
     let l = s.lengths in
-    then_found _ (then_found _ (number_line_back key.NumVariables N.variables _ n.0)
+    then_found _ (number_line_back key.NumVariables N.variables _ n.0)
     ∙ then_found _ (number_line_back key.Capacity N.capacity _ n.1.0)
     ∙ then_found _ (line_back key.DomainId byte_list (listed N.id) N.id _ (byte_list_back N.id _ l.0 s.bytes refl))
-    ∙ then_found _ (line_back key.Stratified flag (flag_text N.strata) N.strata _ (flag_back N.strata _ refl)))
-    ∙ then_found _ (then_found _ (number_line_back key.StartingLogInvRate N.first_rate _ n.1.1.0)
+    ∙ then_found _ (line_back key.Stratified flag (flag_text N.strata) N.strata _ (flag_back N.strata _ refl))
+    ∙ then_found _ (number_line_back key.StartingLogInvRate N.first_rate _ n.1.1.0)
     ∙ then_found _ (list_line_back key.RoundLogInvRates N.listed_rates _ l.1.0 s.rates)
     ∙ then_found _ (line_back key.FoldingFactor strategy (strategy_text N.strategy) N.strategy _
     (strategy_back N.strategy _ l.1.1.1.1.0 s.factors refl))
     ∙ then_found _ (number_line_back key.Soundness N.soundness _ n.1.1.1.0)
     ∙ then_found _ (number_line_back key.SecurityLevel N.level _ n.1.1.1.1.0)
-    ∙ then_found _ (number_line_back key.PowBudget N.budget _ n.1.1.1.1.1.0))
-    ∙ then_found _ (then_found _ (list_line_back key.Schedule N.stored _ l.1.1.0 s.schedule)
+    ∙ then_found _ (number_line_back key.PowBudget N.budget _ n.1.1.1.1.1.0)
+    ∙ then_found _ (list_line_back key.Schedule N.stored _ l.1.1.0 s.schedule)
     ∙ then_found _ (rounds_back N.rounds _ l.1.1.1.0 s.rounds refl)
     ∙ then_found _ (number_line_back key.CommitmentOodSamples N.commitment_samples _ n.1.1.1.1.1.1.0)
-    ∙ then_found _ (number_line_back key.StartingFoldingPowBits N.first_difficulty _ n.1.1.1.1.1.1.1.0))
-    ∙ then_found _ (then_found _ (terminal_back N.terminal.num_queries N.terminal.pow_bits _ n.1.1.1.1.1.1.1.1.0 n.1.1.1.1.1.1.1.1.1.0)
+    ∙ then_found _ (number_line_back key.StartingFoldingPowBits N.first_difficulty _ n.1.1.1.1.1.1.1.0)
+    ∙ then_found _ (terminal_back N.terminal.num_queries N.terminal.pow_bits _ n.1.1.1.1.1.1.1.1.0 n.1.1.1.1.1.1.1.1.1.0)
     ∙ then_found _ (number_line_back key.FinalSumcheckRounds N.final_rounds _ n.1.1.1.1.1.1.1.1.1.1.0)
-    ∙ then_found _ (number_line_back key.FinalFoldingPowBits N.final_difficulty _ n.1.1.1.1.1.1.1.1.1.1.1.0))
+    ∙ then_found _ (number_line_back key.FinalFoldingPowBits N.final_difficulty _ n.1.1.1.1.1.1.1.1.1.1.1.0)
 
 pub written_apart : WrittenApart
 written_apart N M more s t e =

@@ -1,5 +1,5 @@
 -- A configuration in a file: alone, or inside a whole case.
-use Rattle.std.specs.Prelude.{◌≡◌, ℕ, ◌+◌, ◌-◌, ◌^◌, min, Bool, false, cond, ◌&&◌, List, [], ◌∷◌, Ok, Err, Result, ◌==◌}
+use Rattle.std.specs.Prelude.{◌≡◌, ℕ, ◌+◌, ◌-◌, ◌^◌, min, count_by, Bool, false, cond, ◌&&◌, List, [], ◌∷◌, Ok, Err, Result, ◌==◌}
 use Rattle.configuration.specs.declared.whir_parameters.WhirNumbers.{WhirNumbers}
 use Rattle.configuration.specs.Numbers.{Numbers, numbers_of}
 use Rattle.format.specs.declared.errors.Expected.{Expected}
@@ -14,8 +14,7 @@ use Rattle.format.specs.Configurations.{configuration_lines}
 
 -- How many line feeds a text has.
 abbrev pub line_feeds : List ℕ → ℕ
-line_feeds [] = 0
-line_feeds (b ∷ bs) = cond (b == 10) (line_feeds bs + 1) (line_feeds bs)
+line_feeds bs = count_by (λ b. b == 10) bs
 
 -- A line feed with the word behind it.
 abbrev pub starts_line : List ℕ → List ℕ → Bool

@@ -6,7 +6,7 @@ use Rattle.configuration.specs.declared.whir_parameters.TerminalBudget.{Terminal
 use Rattle.format.specs.declared.errors.Expected.TheVariants as expected
 use Rattle.format.specs.declared.keys.Key.{Key}
 use Rattle.format.specs.declared.keys.Key.TheVariants.{Round, Rounds}
-use Rattle.format.specs.Reading.{Read, found, stuck, then, begins, the_key, line_end, next_number, numbers_listed, each, list}
+use Rattle.format.specs.Reading.{Read, found, stuck, then, begins, the_key, line_end, next_number, numbers_listed, each, list_of, list}
 
 -- A line: its key word, what follows it, and the line feed.
 unfoldable pub line : {X : Type 0} → Key → (List ℕ → Read X) → List ℕ → Read X
@@ -16,12 +16,9 @@ line key part bs = then (the_key key bs) (λ _ behind. then (part behind) (λ x 
 unfoldable pub byte_item : List ℕ → Read ℕ
 byte_item bs = then (next_number bs) (λ n rest. cond (nat_lt n 256) (found n rest) (stuck expected.Byte rest))
 
-unfoldable pub bytes_listed : ℕ → List ℕ → Read (List ℕ)
-bytes_listed count bs = each (λ _. byte_item) 0 count bs
-
 -- A list of bytes.
-unfoldable pub byte_list : List ℕ → Read (List ℕ)
-byte_list bs = then (next_number bs) (λ count rest. bytes_listed count rest)
+abbrev pub byte_list : List ℕ → Read (List ℕ)
+byte_list = list_of (λ _. byte_item)
 
 -- One of the two truth values: 0 is no and 1 is yes.
 unfoldable pub flag : List ℕ → Read Bool

@@ -1,5 +1,6 @@
 -- Reading a text from its front.
-use Rattle.std.specs.Prelude.{◌≡◌, ℕ, zero, suc, ◌+◌, ◌-◌, ◌*◌, ◌^◌, Bool, true, false, cond, ◌&&◌, List, [], ◌∷◌, length, take, drop, Ok, Err, Result, ◌==◌, nat_le, nat_lt}
+use Rattle.std.specs.Prelude.{◌≡◌, ℕ, zero, suc, ◌+◌, ◌-◌, ◌*◌, ◌^◌, Bool, cond, ◌&&◌, eqb, List, [], ◌∷◌, length, drop, Ok, Err, Result, ◌==◌, nat_le, nat_lt, take_while}
+use Rattle.std.specs.List.{prefix_len, starts_with}
 use Rattle.format.specs.declared.errors.Expected.{Expected}
 use Rattle.format.specs.declared.errors.Expected.TheVariants.{Word, Blank, LineEnd, Number, NumberBelow64Bits}
 use Rattle.format.specs.declared.errors.Fault.{Fault}
@@ -32,24 +33,22 @@ plain x = x
 
 -- Whether a text begins with a word.
 abbrev pub begins : List ℕ → List ℕ → Bool
-begins [] bs = true
-begins (w ∷ ws) [] = false
-begins (w ∷ ws) (b ∷ bs) = b == w && begins ws bs
+begins word bs = starts_with eqb bs word
 
 -- The bytes of a word.
 unfoldable pub the_word : List ℕ → Expected → List ℕ → Read Unit
 the_word word e bs = cond (begins word bs) (found tt (drop (length word) bs)) (stuck e bs)
 
 -- The key word of a line.
-unfoldable pub the_key : Key → List ℕ → Read Unit
+abbrev pub the_key : Key → List ℕ → Read Unit
 the_key k bs = the_word (letters k) (Word k) bs
 
 -- The blank between two words.
-unfoldable pub blank : List ℕ → Read Unit
+abbrev pub blank : List ℕ → Read Unit
 blank bs = the_word (32 ∷ []) Blank bs
 
 -- The line feed that ends a line.
-unfoldable pub line_end : List ℕ → Read Unit
+abbrev pub line_end : List ℕ → Read Unit
 line_end bs = the_word (10 ∷ []) LineEnd bs
 
 -- The codes of the characters 0 to 9.
@@ -58,8 +57,7 @@ is_digit b = nat_le 48 b && nat_le b 57
 
 -- How many digits a text begins with.
 abbrev pub digit_count : List ℕ → ℕ
-digit_count [] = 0
-digit_count (b ∷ bs) = cond (is_digit b) (digit_count bs + 1) 0
+digit_count bs = prefix_len is_digit bs
 
 -- The number that digits are, the highest first, behind the digits of another number.
 abbrev pub value_after : ℕ → List ℕ → ℕ
@@ -68,7 +66,7 @@ value_after n (b ∷ bs) = value_after (n * 10 + (b - 48)) bs
 
 -- The digits that a text begins with.
 abbrev pub digits_of : List ℕ → List ℕ
-digits_of bs = take (digit_count bs) bs
+digits_of bs = take_while is_digit bs
 
 -- A number: all the digits that stand here, at least one, and less than 2^64.
 unfoldable pub number : List ℕ → Read ℕ
@@ -90,5 +88,9 @@ unfoldable pub numbers_listed : ℕ → List ℕ → Read (List ℕ)
 numbers_listed count bs = each (λ _. next_number) 0 count bs
 
 -- A list: its length, then its items.
-unfoldable pub list : List ℕ → Read (List ℕ)
-list bs = then (next_number bs) (λ count rest. numbers_listed count rest)
+unfoldable pub list_of : {X : Type 0} → (ℕ → List ℕ → Read X) → List ℕ → Read (List X)
+list_of item bs = then (next_number bs) (λ count rest. each item 0 count rest)
+
+-- A list of numbers.
+abbrev pub list : List ℕ → Read (List ℕ)
+list = list_of (λ _. next_number)

@@ -1,6 +1,6 @@
 // A cursor: what is left of a text. Each function reads a part from the front of it, or says what should have stood there.
-ghost use Rattle.std.specs.Prelude.{◌≡◌, ◌-◌, ◌^◌, ◌≤◌, min, true, length, drop, if◌then◌else◌, vec_items};
-ghost use Rattle.format.specs.Reading.{Gives, plain, begins, is_digit, digit_count, value_after, blank, line_end, the_word, the_key, number, next_number, numbers_listed, list};
+ghost use Rattle.std.specs.Prelude.{◌≡◌, ◌^◌, ◌-◌, ◌≤◌, min, length, drop, if◌then◌else◌};
+ghost use Rattle.format.specs.Reading.{Gives, plain, begins, digit_count, value_after, blank, line_end, the_word, the_key, number, next_number};
 
 use crate::errors::{Expected, Fault};
 use crate::keys::Key;
@@ -8,30 +8,11 @@ use std::alloc::Global;
 
 #[derive(Drop)]
 pub struct Cursor<'a> {
+    // What the lists that are read are made with.
+    pub heap: Global,
+
     // The bytes left.
     pub rest: &'a [u8],
-}
-
-// Whether a text begins with a word.
-pub fn begins_with(text: &[u8], word: &[u8]) -> bool
-    ensures begins { result ≡ begins word.now text.now }
-    ensures fits { result ≡ true → length word.now ≤ length text.now }
-{
-    for (i, byte) in word.iter().enumerate() {
-        if i >= text.len() {
-            return false;
-        }
-        if text[i] != *byte {
-            return false;
-        }
-    }
-    true
-}
-
-fn is_digit(byte: u8) -> bool
-    ensures { result ≡ is_digit byte }
-{
-    byte >= 48 && byte <= 57
 }
 
 // How many digits a text begins with.
@@ -39,24 +20,18 @@ pub fn digit_count(text: &[u8]) -> usize
     ensures count { result ≡ digit_count text.now }
     ensures fits { result ≤ length text.now }
 {
-    for (i, byte) in text.iter().enumerate() {
-        if !is_digit(*byte) {
-            return i;
-        }
-    }
-    text.len()
+    text.iter().take_while(|byte| byte.is_ascii_digit()).count()
 }
 
 // The number that digits are, as far as there is room for it.
 fn value_of(digits: &[u8]) -> u128
     ensures { result ≡ min (2 ^ 128 - 1) (value_after 0 digits.now) }
 {
-    let mut value: u128 = 0;
-    for byte in digits {
-        let digit = (*byte).saturating_sub(48);
-        value = value.saturating_mul(10).saturating_add(digit as u128);
-    }
-    value
+    digits.iter().fold(0, |value: u128, digit| {
+        value
+            .saturating_mul(10)
+            .saturating_add(u128::from(digit.saturating_sub(b'0')))
+    })
 }
 
 impl<'a> Cursor<'a> {
@@ -65,15 +40,15 @@ impl<'a> Cursor<'a> {
         ensures test { result ≡ begins word.now self.old.rest.now }
         ensures rest { self.new.rest.now ≡ (if result then drop (length word.now) self.old.rest.now else self.old.rest.now) }
     {
-        let rest = self.rest;
-        if !begins_with(rest, word) {
+        let Some(rest) = self.rest.strip_prefix(word) else {
             return false;
-        }
-        self.rest = &rest[word.len()..];
+        };
+        self.rest = rest;
         true
     }
 
     // The bytes of a word.
+    #[tactic(auto, unfolding(crate::specs::Reading::the_word))]
     pub fn word(&mut self, word: &[u8], expected: Expected) -> Result<(), Fault>
         ensures { Gives plain (the_word word.now expected self.old.rest.now) result self.new.rest.now }
     {
@@ -105,6 +80,7 @@ impl<'a> Cursor<'a> {
     }
 
     // A number: all the digits that stand here, at least one, and less than 2^64.
+    #[tactic(auto, unfolding(crate::specs::Reading::number))]
     pub fn number(&mut self) -> Result<usize, Fault>
         ensures { Gives plain (number self.old.rest.now) result self.new.rest.now }
     {
@@ -113,12 +89,11 @@ impl<'a> Cursor<'a> {
         if count == 0 {
             return Err(Fault::Syntax(Expected::Number));
         }
-        let value = value_of(&rest[0..count]);
-        if value > 18_446_744_073_709_551_615 {
+        let Ok(value) = usize::try_from(value_of(&rest[..count])) else {
             return Err(Fault::Syntax(Expected::NumberBelow64Bits));
-        }
+        };
         self.rest = &rest[count..];
-        Ok(value as usize)
+        Ok(value)
     }
 
     // A blank, and a number behind it.
@@ -127,25 +102,5 @@ impl<'a> Cursor<'a> {
     {
         self.blank()?;
         self.number()
-    }
-
-    // As many numbers, each behind a blank.
-    pub fn numbers(&mut self, heap: Global, count: usize) -> Result<Vec<usize>, Fault>
-        ensures { Gives vec_items (numbers_listed count self.old.rest.now) result self.new.rest.now }
-    {
-        let mut items = Vec::new(heap);
-        for _i in 0..count {
-            let item = self.next_number()?;
-            items.push(item)?;
-        }
-        Ok(items)
-    }
-
-    // A list: its length, then its items.
-    pub fn list(&mut self, heap: Global) -> Result<Vec<usize>, Fault>
-        ensures { Gives vec_items (list self.old.rest.now) result self.new.rest.now }
-    {
-        let count = self.next_number()?;
-        self.numbers(heap, count)
     }
 }

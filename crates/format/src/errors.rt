@@ -5,6 +5,7 @@ ghost use Rattle.format.specs.declared.errors.Fault.TheVariants.{OutOfMemory};
 use crate::keys::Key;
 use std::alloc::{AllocError, AllocFailed};
 use std::fmt;
+use thiserror::Error;
 
 // What should have stood where reading stopped.
 #[derive(Clone, Copy, PartialEq, Eq, Debug)]
@@ -44,6 +45,21 @@ pub enum Fault {
     OutOfMemory,
 }
 
+impl Fault {
+    ghost use Rattle.format.specs.Files.{placed};
+
+    // The error of a file, where this is the fault of what stands on the line.
+    pub fn on_line(self, line: usize) -> ReadError
+        ensures { result ≡ placed self line }
+    {
+        match self {
+            Fault::Syntax(expected) => ReadError::Syntax { line, expected },
+            Fault::OutOfMemory => ReadError::OutOfMemory,
+        }
+    }
+}
+
+// Kept: want of memory comes as either of two errors, and a clause has to know what `?` makes of each.
 impl From<AllocError> for Fault {
     ghost from_gives = { λ _ r. r ≡ OutOfMemory };
 
@@ -61,9 +77,11 @@ impl<T: Drop> From<AllocFailed<T>> for Fault {
 }
 
 // Why a file was not read: the line, counted from 1, with what was expected there; or want of memory.
-#[derive(Clone, Copy, PartialEq, Eq, Debug)]
+#[derive(Clone, Copy, PartialEq, Eq, Debug, Error)]
 pub enum ReadError {
+    #[error("line {line}: expected {expected}")]
     Syntax { line: usize, expected: Expected },
+    #[error("out of memory")]
     OutOfMemory,
 }
 
@@ -79,15 +97,6 @@ impl fmt::Display for Expected {
             Expected::Flag => write!(f, "0 or 1"),
             Expected::Index(index) => write!(f, "the index {index}"),
             Expected::Strategy => write!(f, "constant, second or per_round"),
-        }
-    }
-}
-
-impl fmt::Display for ReadError {
-    fn fmt<W: fmt::Write>(&self, f: &mut fmt::Formatter<W>) -> fmt::Result {
-        match *self {
-            ReadError::Syntax { line, expected } => write!(f, "line {line}: expected {expected}"),
-            ReadError::OutOfMemory => write!(f, "out of memory"),
         }
     }
 }

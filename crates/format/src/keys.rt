@@ -56,7 +56,6 @@ impl Key {
 
 impl fmt::Display for Key {
     fn fmt<W: fmt::Write>(&self, f: &mut fmt::Formatter<W>) -> fmt::Result {
-        let word = self.word();
-        write!(f, "{word}")
+        write!(f, "{}", self.word())
     }
 }

@@ -3,7 +3,6 @@
 
 pub mod cursor;
 pub mod errors;
-pub mod groups;
 pub mod keys;
 pub mod lines;
 pub mod parts;

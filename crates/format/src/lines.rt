@@ -1,61 +1,174 @@
 // The kinds of lines that a configuration has.
-ghost use Rattle.std.specs.Prelude.{◌≡◌, vec_items};
+ghost use Rattle.std.specs.Prelude.{◌≡◌, ℕ, Bool, List, vec_items};
+ghost use Rattle.parameters.specs.Schedule.{Strategy};
 ghost use Rattle.parameters.specs.Replies.{strategy_of};
-ghost use Rattle.format.specs.Reading.{Gives, plain, next_number, list};
-ghost use Rattle.format.specs.Lines.{line, byte_item, bytes_listed, byte_list, flag, line_index, constant_behind, second_behind, listed_behind, strategy, round, rounds_listed, rounds, terminal_of};
+ghost use Rattle.configuration.specs.declared.whir_parameters.RoundConfig.{RoundConfig};
+ghost use Rattle.configuration.specs.declared.whir_parameters.TerminalBudget.{TerminalBudget};
+ghost use Rattle.format.specs.Reading.{Read, Gives, plain, next_number, each, list_of};
+ghost use Rattle.format.specs.Lines.{line, byte_item, flag, line_index, strategy, round, rounds, terminal_of};
 
 use crate::cursor::Cursor;
 use crate::errors::{Expected, Fault};
 use crate::keys::Key;
 use configuration::whir_parameters::{RoundConfig, TerminalBudget};
 use parameters::folding::FoldingFactor;
-use std::alloc::Global;
+
+// What stands behind the key word of a line.
+pub trait Part: Drop + Sized {
+    // What a value is to the definitions.
+    ghost Shown: { Type 0 };
+
+    ghost shown: { Self → Shown };
+
+    // The definition of how it is read.
+    ghost reading: { List ℕ → Read Shown };
+
+    // The value at the front of a text.
+    fn read(cursor: &mut Cursor) -> Result<Self, Fault>
+        ensures { Gives shown (reading cursor.old.rest.now) result cursor.new.rest.now };
+}
+
+// What stands one after another in a list.
+pub trait Item: Drop + Sized {
+    // The definition of how the item of an index is read.
+    ghost item: { ℕ → List ℕ → Read Self };
+
+    // The item of this index, at the front of a text.
+    fn read_at(cursor: &mut Cursor, index: usize) -> Result<Self, Fault>
+        ensures { Gives plain (item index cursor.old.rest.now) result cursor.new.rest.now };
+}
+
+// A number, behind a blank.
+impl Item for usize {
+    ghost item = { λ _. next_number };
+
+    fn read_at(cursor: &mut Cursor, _index: usize) -> Result<usize, Fault> {
+        cursor.next_number()
+    }
+}
+
+// A byte, as a number behind a blank.
+impl Item for u8 {
+    ghost item = { λ _. byte_item };
+
+    fn read_at(cursor: &mut Cursor, _index: usize) -> Result<u8, Fault> {
+        let number = cursor.next_number()?;
+        u8::try_from(number).map_err(|_| Fault::Syntax(Expected::Byte))
+    }
+}
+
+// The line of a round.
+impl Item for RoundConfig {
+    ghost item = { round };
+
+    fn read_at(cursor: &mut Cursor, index: usize) -> Result<RoundConfig, Fault> {
+        cursor.key(Key::Round)?;
+        cursor.index(index)?;
+        let round = RoundConfig {
+            pow_bits: cursor.next_number()?,
+            folding_pow_bits: cursor.next_number()?,
+            num_queries: cursor.next_number()?,
+            ood_samples: cursor.next_number()?,
+            num_variables: cursor.next_number()?,
+            folding_factor: cursor.next_number()?,
+            log_inv_rate: cursor.next_number()?,
+            domain_size: cursor.next_number()?,
+            log_folded_domain_size: cursor.next_number()?,
+        };
+        cursor.end_of_line()?;
+        Ok(round)
+    }
+}
+
+// A number, behind a blank.
+impl Part for usize {
+    ghost Shown = { ℕ };
+
+    ghost shown = { plain };
+
+    ghost reading = { next_number };
+
+    fn read(cursor: &mut Cursor) -> Result<usize, Fault> {
+        cursor.next_number()
+    }
+}
+
+// One of the two truth values.
+impl Part for bool {
+    ghost Shown = { Bool };
+
+    ghost shown = { plain };
+
+    ghost reading = { flag };
+
+    fn read(cursor: &mut Cursor) -> Result<bool, Fault> {
+        match cursor.next_number()? {
+            0 => Ok(false),
+            1 => Ok(true),
+            _ => Err(Fault::Syntax(Expected::Flag)),
+        }
+    }
+}
+
+// A list: its length, then its items.
+impl<T: Item> Part for Vec<T> {
+    ghost Shown = { List T };
+
+    ghost shown = { vec_items };
+
+    ghost reading = { list_of T.item };
+
+    fn read(cursor: &mut Cursor) -> Result<Vec<T>, Fault> {
+        let count = cursor.next_number()?;
+        cursor.items(count)
+    }
+}
+
+// A folding strategy: its name, behind a blank, and its factors.
+impl Part for FoldingFactor {
+    ghost Shown = { Strategy };
+
+    ghost shown = { strategy_of };
+
+    ghost reading = { strategy };
+
+    fn read(cursor: &mut Cursor) -> Result<FoldingFactor, Fault> {
+        if cursor.takes(b" constant") {
+            let factor = cursor.next_number()?;
+            return Ok(FoldingFactor::Constant(factor));
+        }
+        if cursor.takes(b" second") {
+            let first = cursor.next_number()?;
+            let later = cursor.next_number()?;
+            return Ok(FoldingFactor::ConstantFromSecondRound(first, later));
+        }
+        if cursor.takes(b" per_round") {
+            let factors = Vec::read(cursor)?;
+            return Ok(FoldingFactor::PerRound(factors));
+        }
+        Err(Fault::Syntax(Expected::Strategy))
+    }
+}
+
+// The queries and the difficulty of the final phase.
+impl Part for TerminalBudget {
+    ghost Shown = { TerminalBudget };
+
+    ghost shown = { plain };
+
+    ghost reading = { terminal_of };
+
+    fn read(cursor: &mut Cursor) -> Result<TerminalBudget, Fault> {
+        let num_queries = cursor.next_number()?;
+        let pow_bits = cursor.next_number()?;
+        Ok(TerminalBudget {
+            num_queries,
+            pow_bits,
+        })
+    }
+}
 
 impl<'a> Cursor<'a> {
-    // A byte, as a number behind a blank.
-    fn byte(&mut self) -> Result<u8, Fault>
-        ensures { Gives plain (byte_item self.old.rest.now) result self.new.rest.now }
-    {
-        let number = self.next_number()?;
-        if number >= 256 {
-            return Err(Fault::Syntax(Expected::Byte));
-        }
-        Ok(number as u8)
-    }
-
-    fn bytes(&mut self, heap: Global, count: usize) -> Result<Vec<u8>, Fault>
-        ensures { Gives vec_items (bytes_listed count self.old.rest.now) result self.new.rest.now }
-    {
-        let mut items = Vec::new(heap);
-        for _i in 0..count {
-            let item = self.byte()?;
-            items.push(item)?;
-        }
-        Ok(items)
-    }
-
-    // A list of bytes.
-    pub fn byte_list(&mut self, heap: Global) -> Result<Vec<u8>, Fault>
-        ensures { Gives vec_items (byte_list self.old.rest.now) result self.new.rest.now }
-    {
-        let count = self.next_number()?;
-        self.bytes(heap, count)
-    }
-
-    // One of the two truth values.
-    pub fn flag(&mut self) -> Result<bool, Fault>
-        ensures { Gives plain (flag self.old.rest.now) result self.new.rest.now }
-    {
-        let number = self.next_number()?;
-        if number == 0 {
-            return Ok(false);
-        }
-        if number == 1 {
-            return Ok(true);
-        }
-        Err(Fault::Syntax(Expected::Flag))
-    }
-
     // The index of a line in its group.
     pub fn index(&mut self, index: usize) -> Result<(), Fault>
         ensures { Gives plain (line_index index self.old.rest.now) result self.new.rest.now }
@@ -66,158 +179,33 @@ impl<'a> Cursor<'a> {
         }
         Ok(())
     }
-}
 
-impl<'a> Cursor<'a> {
-    fn constant(&mut self) -> Result<FoldingFactor, Fault>
-        ensures { Gives strategy_of (constant_behind self.old.rest.now) result self.new.rest.now }
+    // As many items, one after another.
+    pub fn items<T: Item>(&mut self, count: usize) -> Result<Vec<T>, Fault>
+        ensures { Gives vec_items (each T.item 0 count self.old.rest.now) result self.new.rest.now }
     {
-        let factor = self.next_number()?;
-        Ok(FoldingFactor::Constant(factor))
-    }
-
-    fn second(&mut self) -> Result<FoldingFactor, Fault>
-        ensures { Gives strategy_of (second_behind self.old.rest.now) result self.new.rest.now }
-    {
-        let first = self.next_number()?;
-        let later = self.next_number()?;
-        Ok(FoldingFactor::ConstantFromSecondRound(first, later))
-    }
-
-    fn per_round(&mut self, heap: Global) -> Result<FoldingFactor, Fault>
-        ensures { Gives strategy_of (listed_behind self.old.rest.now) result self.new.rest.now }
-    {
-        let factors = self.list(heap)?;
-        Ok(FoldingFactor::PerRound(factors))
-    }
-
-    // A folding strategy: its name, behind a blank, and its factors.
-    pub fn strategy(&mut self, heap: Global) -> Result<FoldingFactor, Fault>
-        ensures { Gives strategy_of (strategy self.old.rest.now) result self.new.rest.now }
-    {
-        if self.takes(b" constant") {
-            return self.constant();
-        }
-        if self.takes(b" second") {
-            return self.second();
-        }
-        if self.takes(b" per_round") {
-            return self.per_round(heap);
-        }
-        Err(Fault::Syntax(Expected::Strategy))
-    }
-
-    // The line of a round.
-    pub fn round(&mut self, heap: Global, index: usize) -> Result<RoundConfig, Fault>
-        ensures { Gives plain (round index self.old.rest.now) result self.new.rest.now }
-    {
-        self.key(Key::Round)?;
-        self.index(index)?;
-        let numbers = self.numbers(heap, 9)?;
-        self.end_of_line()?;
-        let all = numbers.as_slice();
-        Ok(RoundConfig {
-            pow_bits: all[0],
-            folding_pow_bits: all[1],
-            num_queries: all[2],
-            ood_samples: all[3],
-            num_variables: all[4],
-            folding_factor: all[5],
-            log_inv_rate: all[6],
-            domain_size: all[7],
-            log_folded_domain_size: all[8],
-        })
-    }
-
-    fn round_lines(&mut self, heap: Global, count: usize) -> Result<Vec<RoundConfig>, Fault>
-        ensures { Gives vec_items (rounds_listed count self.old.rest.now) result self.new.rest.now }
-    {
-        let mut items = Vec::new(heap);
-        for i in 0..count {
-            let item = self.round(heap, i)?;
+        let mut items = Vec::new(self.heap);
+        for index in 0..count {
+            let item = T::read_at(self, index)?;
             items.push(item)?;
         }
         Ok(items)
     }
 
     // The rounds: a line with their number, and a line for each.
-    pub fn rounds(&mut self, heap: Global) -> Result<Vec<RoundConfig>, Fault>
+    pub fn rounds(&mut self) -> Result<Vec<RoundConfig>, Fault>
         ensures { Gives vec_items (rounds self.old.rest.now) result self.new.rest.now }
     {
-        let count = self.number_line(Key::Rounds)?;
-        self.round_lines(heap, count)
+        let count = self.line(Key::Rounds)?;
+        self.items(count)
     }
-}
 
-impl<'a> Cursor<'a> {
-    // A line with one number.
-    pub fn number_line(&mut self, key: Key) -> Result<usize, Fault>
-        ensures { Gives plain (line key next_number self.old.rest.now) result self.new.rest.now }
+    // A line: its key word, what stands behind it, and the line feed.
+    pub fn line<P: Part>(&mut self, key: Key) -> Result<P, Fault>
+        ensures { Gives P.shown (line key P.reading self.old.rest.now) result self.new.rest.now }
     {
         self.key(key)?;
-        let value = self.next_number()?;
-        self.end_of_line()?;
-        Ok(value)
-    }
-
-    // A line with a list of numbers.
-    pub fn list_line(&mut self, heap: Global, key: Key) -> Result<Vec<usize>, Fault>
-        ensures { Gives vec_items (line key list self.old.rest.now) result self.new.rest.now }
-    {
-        self.key(key)?;
-        let value = self.list(heap)?;
-        self.end_of_line()?;
-        Ok(value)
-    }
-
-    // A line with a list of bytes.
-    pub fn byte_list_line(&mut self, heap: Global, key: Key) -> Result<Vec<u8>, Fault>
-        ensures { Gives vec_items (line key byte_list self.old.rest.now) result self.new.rest.now }
-    {
-        self.key(key)?;
-        let value = self.byte_list(heap)?;
-        self.end_of_line()?;
-        Ok(value)
-    }
-
-    // A line with a truth value.
-    pub fn flag_line(&mut self, key: Key) -> Result<bool, Fault>
-        ensures { Gives plain (line key flag self.old.rest.now) result self.new.rest.now }
-    {
-        self.key(key)?;
-        let value = self.flag()?;
-        self.end_of_line()?;
-        Ok(value)
-    }
-
-    // The line with the folding strategy.
-    pub fn strategy_line(&mut self, heap: Global, key: Key) -> Result<FoldingFactor, Fault>
-        ensures { Gives strategy_of (line key strategy self.old.rest.now) result self.new.rest.now }
-    {
-        self.key(key)?;
-        let value = self.strategy(heap)?;
-        self.end_of_line()?;
-        Ok(value)
-    }
-
-    // The queries and the difficulty of the final phase.
-    fn budget(&mut self) -> Result<TerminalBudget, Fault>
-        ensures { Gives plain (terminal_of self.old.rest.now) result self.new.rest.now }
-    {
-        let num_queries = self.next_number()?;
-        let pow_bits = self.next_number()?;
-        Ok(TerminalBudget {
-            num_queries,
-            pow_bits,
-        })
-    }
-
-    // The line of the final phase.
-    pub fn terminal_line(&mut self, key: Key) -> Result<TerminalBudget, Fault>
-        ensures { Gives plain (line key terminal_of self.old.rest.now) result self.new.rest.now }
-    {
-        self.key(key)?;
-        let value = self.budget()?;
+        let value = P::read(self)?;
         self.end_of_line()?;
         Ok(value)
     }

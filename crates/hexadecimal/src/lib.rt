@@ -11,12 +11,10 @@ use std::alloc::{AllocError, Global};
 fn digit(c: u8) -> Option<u8>
     ensures { result ≡ digit_value c }
 {
-    if b'0' <= c && c <= b'9' {
-        Some(c - b'0')
-    } else if b'a' <= c && c <= b'f' {
-        Some(c - b'a' + 10)
-    } else {
-        None
+    match c {
+        b'0'..=b'9' => Some(c - b'0'),
+        b'a'..=b'f' => Some(c - b'a' + 10),
+        _ => None,
     }
 }
 
@@ -24,32 +22,27 @@ fn digit(c: u8) -> Option<u8>
 fn byte(high: u8, low: u8) -> Option<u8>
     ensures { result ≡ byte_value (digit_value high) (digit_value low) }
 {
-    match (digit(high), digit(low)) {
-        (Some(h), Some(l)) => Some(16 * h + l),
-        _ => None,
-    }
+    Some(16 * digit(high)? + digit(low)?)
 }
 
 /// The bytes that a text spells, or nothing if it spells none: digits in lower case, two to a byte,
 /// and `-` for no bytes.
+#[tactic(auto, using(crate::proofs::Spells::many_spelled, crate::proofs::Spells::two_left))]
 pub fn from_hex(heap: Global, text: &str) -> Result<Option<Vec<u8>>, AllocError>
     ensures { IfOk result (λ o. option_map vec_items o ≡ spelled text.now) }
 {
-    let digits = text.as_bytes();
     let mut bytes = Vec::new(heap);
-    if digits.len() == 1 {
-        return Ok(if digits[0] == b'-' { Some(bytes) } else { None });
+    if text == "-" {
+        return Ok(Some(bytes));
     }
-    let mut i = 0;
-    while i < digits.len() {
-        if i + 1 == digits.len() {
+    for pair in text.as_bytes().chunks(2) {
+        let [high, low] = pair else {
             return Ok(None);
-        }
-        let Some(b) = byte(digits[i], digits[i + 1]) else {
+        };
+        let Some(b) = byte(*high, *low) else {
             return Ok(None);
         };
         bytes.push(b)?;
-        i += 2;
     }
     Ok(Some(bytes))
 }

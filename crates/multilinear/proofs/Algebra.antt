@@ -59,9 +59,6 @@ module _ {E : Type 0} (F : Ops E) (L : IsRing F) where
   pub sub_self : (a : E) → F.sub a a ≡ F.zero
   sub_self a = ring L (a ∷ []) (v0 ⊖ v0) O tt
 
-  pub sub-zero : (a : E) → F.sub a F.zero ≡ a
-  sub-zero a = ring L (a ∷ []) (v0 ⊖ O) v0 tt
-
   pub sub_eq : (a b : E) → F.sub a b ≡ F.zero → a ≡ b
   sub_eq a b h = ring_by L (a ∷ b ∷ []) v0 v1 I (v0 ⊖ v1) O h tt
 

@@ -1,3 +1,4 @@
+pub mod Points
 pub mod Algebra
 pub mod Sums
 pub mod Linear

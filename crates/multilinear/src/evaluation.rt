@@ -1,23 +1,21 @@
 ghost use Rattle.std.specs.Prelude.{◌≡◌, ℕ, ◌+◌, ◌-◌, ◌^◌, ◌<◌, ◌≤◌, length, take, drop, Some, None, MatchOption, ◌≢◌};
-ghost use Rattle.multilinear.specs.Tables.{orient, value, position};
+ghost use Rattle.multilinear.specs.Tables.{value, position};
 ghost use Rattle.multilinear.specs.Weights.{factor_of, weighted};
 ghost use Rattle.multilinear.specs.Scratch.{bound, spent};
 
-use crate::order::{VariableOrder, coordinate};
-use crate::weight::{Weight, factor};
+use crate::order::VariableOrder;
+use crate::point::Point;
+use crate::weight::Weight;
 use field::Field;
 
 // 2^variables, where there is room for so many values.
 fn table_size(variables: usize, room: usize) -> Option<usize>
     ensures { MatchOption result (room < 2 ^ variables) (λ size. (size ≡ 2 ^ variables) × (size ≤ room)) }
 {
-    let mut size: usize = 1;
-    for _i in 0..variables {
-        if size > room / 2 {
-            return None;
-        }
-        size *= 2;
-    }
+    let Ok(exponent) = u32::try_from(variables) else {
+        return None;
+    };
+    let size = 2usize.checked_pow(exponent)?;
     if size > room { None } else { Some(size) }
 }
 
@@ -33,85 +31,72 @@ fn bind_first<F: Field>(scratch: &mut [F], half: usize, r: F)
     requires { half + half ≤ length scratch.old }
     ensures { scratch.new ≡ bound F.Field.ops r half scratch.old }
 {
-    for i in 0..half {
-        let low = scratch[i];
-        let high = scratch[half + i];
-        scratch[i] = mix(r, low, high);
+    let (front, back) = scratch.split_at_mut(half);
+    // Kept: by an index at the upper half: after a loop over a zip of `iter_mut` no element that was written is known.
+    for (i, low) in front.iter_mut().enumerate() {
+        *low = mix(r, *low, back[i]);
     }
 }
 
-// The value, at the point that the draws stand for, of the table in the front of `scratch`, which is folded in place.
+// The value at a point of the table in the front of `scratch`, which is folded in place.
 // None, and nothing touched, where `scratch` is too short for a table of so many variables.
-pub fn evaluate<F: Field>(scratch: &mut [F], draws: &[F], order: VariableOrder) -> Option<F>
-    ensures fits { 2 ^ length draws.now ≤ length scratch.old → result ≡ Some (value F.Field.ops (take (2 ^ length draws.now) scratch.old) (orient order draws.now)) }
-    ensures leaves { 2 ^ length draws.now ≤ length scratch.old → scratch.new ≡ spent F.Field.ops (orient order draws.now) scratch.old }
-    ensures refuses { length scratch.old < 2 ^ length draws.now → (result ≡ None) × (scratch.new ≡ scratch.old) }
+pub fn evaluate<F: Field>(scratch: &mut [F], point: &Point<F>) -> Option<F>
+    ensures fits { 2 ^ length point.now ≤ length scratch.old → result ≡ Some (value F.Field.ops (take (2 ^ length point.now) scratch.old) point.now) }
+    ensures leaves { 2 ^ length point.now ≤ length scratch.old → scratch.new ≡ spent F.Field.ops point.now scratch.old }
+    ensures refuses { length scratch.old < 2 ^ length point.now → (result ≡ None) × (scratch.new ≡ scratch.old) }
 {
-    let Some(size) = table_size(draws.len(), scratch.len()) else {
-        return None;
-    };
-    let mut left = size;
-    for j in 0..draws.len() {
+    let mut left = table_size(point.len(), scratch.len())?;
+    for r in point.iter() {
         left /= 2;
-        bind_first(scratch, left, coordinate(draws, order, j));
+        bind_first(scratch, left, r);
     }
     Some(scratch[0])
 }
 
-// The table under a weight at the coordinates from j on, by its halves: no buffer, and linear in the table's size.
-fn by_halves<F: Field>(
-    weight: Weight,
-    table: &[F],
-    draws: &[F],
-    order: VariableOrder,
-    j: usize,
-) -> F
-    requires { (j ≤ length draws.now) × (length table.now ≡ 2 ^ (length draws.now - j)) }
-    ensures { result ≡ weighted F.Field.ops (factor_of F.Field.ops weight) table.now (drop j (orient order draws.now)) }
+// The table under a weight at a point, by its halves: no buffer, and linear in the table's size.
+fn by_halves<F: Field>(weight: Weight, table: &[F], point: &Point<F>) -> F
+    requires { length table.now ≡ 2 ^ length point.now }
+    ensures { result ≡ weighted F.Field.ops (factor_of F.Field.ops weight) table.now point.now }
 {
-    if j == draws.len() {
+    let Some((p, rest)) = point.split_first() else {
         return table[0];
-    }
+    };
     let (front, back) = table.split_at(table.len() / 2);
-    let low = by_halves(weight, front, draws, order, j + 1);
-    let high = by_halves(weight, back, draws, order, j + 1);
-    let p = coordinate(draws, order, j);
-    factor(weight, p, F::zero())
+    let low = by_halves(weight, front, &rest);
+    let high = by_halves(weight, back, &rest);
+    weight
+        .factor(p, F::zero())
         .mul(low)
-        .add(factor(weight, p, F::one()).mul(high))
+        .add(weight.factor(p, F::one()).mul(high))
 }
 
 // The table under a weight, where it has a value for each corner.
-fn weigh_table<F: Field>(
-    weight: Weight,
-    table: &[F],
-    draws: &[F],
-    order: VariableOrder,
-) -> Option<F>
-    ensures fits { length table.now ≡ 2 ^ length draws.now → result ≡ Some (weighted F.Field.ops (factor_of F.Field.ops weight) table.now (orient order draws.now)) }
-    ensures refuses { (length table.now ≢ 2 ^ length draws.now) → result ≡ None }
+fn weigh_table<F: Field>(weight: Weight, table: &[F], point: &Point<F>) -> Option<F>
+    ensures fits { length table.now ≡ 2 ^ length point.now → result ≡ Some (weighted F.Field.ops (factor_of F.Field.ops weight) table.now point.now) }
+    ensures refuses { (length table.now ≢ 2 ^ length point.now) → result ≡ None }
 {
-    let Some(size) = table_size(draws.len(), table.len()) else {
-        return None;
-    };
-    if size != table.len() {
+    if table_size(point.len(), table.len())? != table.len() {
         return None;
     }
-    Some(by_halves(weight, table, draws, order, 0))
+    Some(by_halves(weight, table, point))
 }
 
-// The table's value at the point that the draws stand for, read in place; None where the table has not a value for each corner.
-pub fn value_at<F: Field>(table: &[F], draws: &[F], order: VariableOrder) -> Option<F>
-    ensures fits { length table.now ≡ 2 ^ length draws.now → result ≡ Some (value F.Field.ops table.now (orient order draws.now)) }
-    ensures refuses { (length table.now ≢ 2 ^ length draws.now) → result ≡ None }
+// The table's value at a point, read in place; None where the table has not a value for each corner.
+// Kept: value and position are the names of a table under the two weights, one call each; the generic function stays private.
+#[tactic(auto, unfolding(crate::specs::Tables::value, crate::specs::Weights::weighted))]
+pub fn value_at<F: Field>(table: &[F], point: &Point<F>) -> Option<F>
+    ensures fits { length table.now ≡ 2 ^ length point.now → result ≡ Some (value F.Field.ops table.now point.now) }
+    ensures refuses { (length table.now ≢ 2 ^ length point.now) → result ≡ None }
 {
-    weigh_table(Weight::Eq, table, draws, order)
+    weigh_table(Weight::Eq, table, point)
 }
 
 // The table's value at the position of a point, read in place; None where the table has not a value for each corner.
+#[tactic(auto, unfolding(crate::specs::Tables::orient, crate::specs::Tables::position, crate::specs::Weights::weighted))]
 pub fn position_at<F: Field>(table: &[F], point: &[F]) -> Option<F>
     ensures fits { length table.now ≡ 2 ^ length point.now → result ≡ Some (position F.Field.ops table.now point.now) }
     ensures refuses { (length table.now ≢ 2 ^ length point.now) → result ≡ None }
 {
-    weigh_table(Weight::Select, table, point, VariableOrder::Prefix)
+    let point = Point::new(point, VariableOrder::Prefix);
+    weigh_table(Weight::Select, table, &point)
 }

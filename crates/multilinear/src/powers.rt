@@ -7,6 +7,7 @@ use field::Field;
 pub fn combine_from<F: Field>(values: &[F], alpha: F, first: F) -> F
     ensures { result ≡ F.Field.ops.mul first (at F.Field.ops values.now alpha) }
 {
+    // Kept: one pass with two running values; a fold over pairs, or a zip with the powers, says the same in more words.
     let mut sum = F::zero();
     let mut power = first;
     for v in values {

@@ -1,87 +1,91 @@
 ghost use Rattle.std.specs.Prelude.{◌≡◌, ℕ, length, Some, None, ◌≢◌};
-ghost use Rattle.multilinear.specs.Tables.{orient, product, eq, select};
+ghost use Rattle.multilinear.specs.Tables.{product, eq, select};
 ghost use Rattle.multilinear.specs.Univariate.{expand};
 ghost use Rattle.multilinear.specs.Weights.{factor_of};
 
-use crate::order::{VariableOrder, coordinate};
+use crate::point::Point;
 use field::Field;
 
 // The two weights of a corner at a point.
-#[derive(Clone, Copy)]
+// Kept: the two weights are data, and one match in one method says what each is.
+#[derive(Clone, Copy, Debug, PartialEq, Eq)]
 pub enum Weight {
     Eq,
     Select,
 }
 
-// The factor of one coordinate.
-pub(crate) fn factor<F: Field>(weight: Weight, p: F, x: F) -> F
-    ensures { result ≡ factor_of F.Field.ops weight p x }
-{
-    let one = F::one();
-    match weight {
-        Weight::Eq => p.mul(x).add(one.sub(p).mul(one.sub(x))),
-        Weight::Select => one.sub(x).add(x.mul(p)),
+impl Weight {
+    // The factor of one coordinate.
+    #[tactic(auto, unfolding(crate::specs::Tables::eq_factor, crate::specs::Tables::select_factor))]
+    pub(crate) fn factor<F: Field>(self, p: F, x: F) -> F
+        ensures { result ≡ factor_of F.Field.ops self p x }
+    {
+        let one = F::one();
+        match self {
+            Weight::Eq => p.mul(x).add(one.sub(p).mul(one.sub(x))),
+            Weight::Select => one.sub(x).add(x.mul(p)),
+        }
     }
 }
 
-// The product of the factors, where the point has as many coordinates as there are draws.
-fn weigh<F: Field>(weight: Weight, point: &[F], draws: &[F], order: VariableOrder) -> Option<F>
-    ensures fits { length point.now ≡ length draws.now → result ≡ Some (product F.Field.ops (factor_of F.Field.ops weight) point.now (orient order draws.now)) }
-    ensures refuses { (length point.now ≢ length draws.now) → result ≡ None }
+// The product of the factors, where both points have as many coordinates.
+fn weigh<F: Field>(weight: Weight, point: &[F], x: &Point<F>) -> Option<F>
+    ensures fits { length point.now ≡ length x.now → result ≡ Some (product F.Field.ops (factor_of F.Field.ops weight) point.now x.now) }
+    ensures refuses { (length point.now ≢ length x.now) → result ≡ None }
 {
-    if point.len() != draws.len() {
+    if point.len() != x.len() {
         return None;
     }
-    let mut all = F::one();
-    for j in 0..point.len() {
-        all = all.mul(factor(weight, point[j], coordinate(draws, order, j)));
-    }
+    let all = point
+        .iter()
+        .zip(x.iter())
+        .fold(F::one(), |all, (p, x)| all.mul(weight.factor(*p, x)));
     Some(all)
 }
 
 // The product of the factors at the point that v stands for, by running squares from the last coordinate.
-fn weigh_univariate<F: Field>(weight: Weight, v: F, draws: &[F], order: VariableOrder) -> F
-    ensures { result ≡ product F.Field.ops (factor_of F.Field.ops weight) (expand F.Field.ops v (length draws.now)) (orient order draws.now) }
+#[tactic(auto, using(crate::proofs::Loops::weighed_none, crate::proofs::Loops::weighed_more, crate::proofs::Loops::weighed_all))]
+fn weigh_univariate<F: Field>(weight: Weight, v: F, x: &Point<F>) -> F
+    ensures { result ≡ product F.Field.ops (factor_of F.Field.ops weight) (expand F.Field.ops v (length x.now)) x.now }
 {
     let mut all = F::one();
     let mut power = v;
-    let mut j = draws.len();
-    while j > 0 {
-        j -= 1;
-        all = factor(weight, power, coordinate(draws, order, j)).mul(all);
+    for x in x.iter().rev() {
+        all = weight.factor(power, x).mul(all);
         power = power.mul(power);
     }
     all
 }
 
-// eq(point, x), x being the point that the draws stand for; None where the lengths differ.
-pub fn eq_at<F: Field>(point: &[F], draws: &[F], order: VariableOrder) -> Option<F>
-    ensures fits { length point.now ≡ length draws.now → result ≡ Some (eq F.Field.ops point.now (orient order draws.now)) }
-    ensures refuses { (length point.now ≢ length draws.now) → result ≡ None }
+// eq(point, x); None where the lengths differ.
+// Kept: the four functions of one weight are the names of the two weights' values, one call each; the generic two stay private.
+pub fn eq_at<F: Field>(point: &[F], x: &Point<F>) -> Option<F>
+    ensures fits { length point.now ≡ length x.now → result ≡ Some (eq F.Field.ops point.now x.now) }
+    ensures refuses { (length point.now ≢ length x.now) → result ≡ None }
 {
-    weigh(Weight::Eq, point, draws, order)
+    weigh(Weight::Eq, point, x)
 }
 
-// select(point, x), x being the point that the draws stand for; None where the lengths differ.
-pub fn select_at<F: Field>(point: &[F], draws: &[F], order: VariableOrder) -> Option<F>
-    ensures fits { length point.now ≡ length draws.now → result ≡ Some (select F.Field.ops point.now (orient order draws.now)) }
-    ensures refuses { (length point.now ≢ length draws.now) → result ≡ None }
+// select(point, x); None where the lengths differ.
+pub fn select_at<F: Field>(point: &[F], x: &Point<F>) -> Option<F>
+    ensures fits { length point.now ≡ length x.now → result ≡ Some (select F.Field.ops point.now x.now) }
+    ensures refuses { (length point.now ≢ length x.now) → result ≡ None }
 {
-    weigh(Weight::Select, point, draws, order)
+    weigh(Weight::Select, point, x)
 }
 
 // eq at the point that v stands for, which is not written out.
-pub fn eq_univariate<F: Field>(v: F, draws: &[F], order: VariableOrder) -> F
-    ensures { result ≡ eq F.Field.ops (expand F.Field.ops v (length draws.now)) (orient order draws.now) }
+pub fn eq_univariate<F: Field>(v: F, x: &Point<F>) -> F
+    ensures { result ≡ eq F.Field.ops (expand F.Field.ops v (length x.now)) x.now }
 {
-    weigh_univariate(Weight::Eq, v, draws, order)
+    weigh_univariate(Weight::Eq, v, x)
 }
 
 // select at the point that v stands for, which is not written out.
-pub fn select_univariate<F: Field>(v: F, draws: &[F], order: VariableOrder) -> F
-    ensures { result ≡ select F.Field.ops (expand F.Field.ops v (length draws.now)) (orient order draws.now) }
+pub fn select_univariate<F: Field>(v: F, x: &Point<F>) -> F
+    ensures { result ≡ select F.Field.ops (expand F.Field.ops v (length x.now)) x.now }
 {
-    weigh_univariate(Weight::Select, v, draws, order)
+    weigh_univariate(Weight::Select, v, x)
 }
 
 // The point of as many coordinates as `out` has places that v stands for: (.., v^4, v^2, v).
@@ -89,9 +93,8 @@ pub fn expand_from_univariate<F: Field>(v: F, out: &mut [F])
     ensures { out.new ≡ expand F.Field.ops v (length out.old) }
 {
     let mut power = v;
-    let mut j = out.len();
-    while j > 0 {
-        j -= 1;
+    // Kept: by an index: after a loop over `iter_mut().rev()` no element that was written is known.
+    for j in (0..out.len()).rev() {
         out[j] = power;
         power = power.mul(power);
     }

@@ -4,15 +4,18 @@
 #![tactic(auto)]
 
 use argument::claim_after;
+use field::bytes::from_numbers;
 use field::pair::Pair;
 use field::residue::Residue;
 use field::{BaseField, ExtensionField, Field};
 use multilinear::evaluation::{evaluate, value_at};
 use multilinear::order::VariableOrder;
+use multilinear::point::Point;
 use multilinear::weight::{eq_at, expand_from_univariate, select_at};
 use std::alloc::Global;
+use std::str::FromStr;
 
-#[derive(Clone, Copy)]
+#[derive(Clone, Copy, Debug, PartialEq, Eq)]
 enum Kind {
     Eq,
     Select,
@@ -21,170 +24,130 @@ enum Kind {
     Round,
 }
 
-fn kind_of(word: &str) -> Option<Kind> {
-    match word {
-        "eq" => Some(Kind::Eq),
-        "select" => Some(Kind::Select),
-        "value" => Some(Kind::Value),
-        "expand" => Some(Kind::Expand),
-        "round" => Some(Kind::Round),
-        _ => None,
+// A word that names no kind.
+#[derive(Clone, Copy, Debug, PartialEq, Eq)]
+struct UnknownKind;
+
+impl FromStr for Kind {
+    type Err = UnknownKind;
+
+    fn from_str(word: &str) -> Result<Self, UnknownKind> {
+        match word {
+            "eq" => Ok(Kind::Eq),
+            "select" => Ok(Kind::Select),
+            "value" => Ok(Kind::Value),
+            "expand" => Ok(Kind::Expand),
+            "round" => Ok(Kind::Round),
+            _ => Err(UnknownKind),
+        }
     }
 }
 
-// The element with these coefficients, of which there are as many as its degree.
-fn element<F: BaseField, E: ExtensionField<F>>(numbers: &[u32]) -> Option<E> {
-    let mut y = E::zero();
-    for j in 0..E::degree() {
-        let number = *numbers.get(j)?;
-        y = y.with_coefficient(j, F::new(number)?);
-    }
-    Some(y)
+// What a line says behind its modulus and degree. A round has no number of variables.
+#[derive(Clone, Copy)]
+struct Case<'a> {
+    kind: Kind,
+    variables: usize,
+    coefficients: &'a [u32],
 }
 
-fn same<E: Field>(answer: Option<E>, want: &[E]) -> bool {
-    match (answer, want) {
-        (Some(x), [y]) => x.equal(*y),
-        _ => false,
-    }
-}
-
-fn weight_agrees<E: Field>(select: bool, n: usize, elements: &[E]) -> Option<bool> {
-    let point = elements.get(0..n)?;
-    let rest = elements.get(n..)?;
-    let x = rest.get(0..n)?;
-    let want = rest.get(n..)?;
-    let answer = if select {
-        select_at(point, x, VariableOrder::Prefix)
-    } else {
-        eq_at(point, x, VariableOrder::Prefix)
-    };
-    Some(same(answer, want))
+fn weight_agrees<E: Field, W: Fn(&[E], &Point<E>) -> Option<E>>(
+    weight_at: W,
+    n: usize,
+    elements: &[E],
+) -> Option<bool>
+    requires { W.IsAlwaysCallable weight_at }
+{
+    let (point, rest) = elements.split_at_checked(n)?;
+    let (x, rest) = rest.split_at_checked(n)?;
+    let [want] = rest else { return None };
+    let answer = weight_at(point, &Point::new(x, VariableOrder::Prefix));
+    Some(answer == Some(*want))
 }
 
 // Read in place, and in a buffer that begins with the table, the value is the same.
 fn value_agrees<E: Field>(n: usize, elements: &[E], scratch: &mut [E]) -> Option<bool> {
-    if elements.len() <= n {
-        return None;
-    }
-    let (table, rest) = elements.split_at(elements.len() - n - 1);
-    let point = rest.get(0..n)?;
-    let want = rest.get(n..)?;
-    let read = same(value_at(table, point, VariableOrder::Prefix), want);
-    Some(read && same(evaluate(scratch, point, VariableOrder::Prefix), want))
+    let (want, rest) = elements.split_last()?;
+    let (table, draws) = rest.split_at_checked(rest.len().checked_sub(n)?)?;
+    let point = Point::new(draws, VariableOrder::Prefix);
+    let want = Some(*want);
+    Some(value_at(table, &point) == want && evaluate(scratch, &point) == want)
 }
 
 fn expansion_agrees<E: Field>(n: usize, elements: &[E], scratch: &mut [E]) -> Option<bool> {
-    let v = *elements.first()?;
-    let want = elements.get(1..)?;
-    if want.len() != n || scratch.len() < n {
-        return None;
-    }
-    let (out, _rest) = scratch.split_at_mut(n);
-    expand_from_univariate(v, out);
-    for (x, y) in out.iter().zip(want.iter()) {
-        if !x.equal(*y) {
-            return Some(false);
-        }
-    }
-    Some(true)
+    let (v, want) = elements.split_first()?;
+    let (out, _rest) = scratch.split_at_mut_checked(n)?;
+    expand_from_univariate(*v, out);
+    Some(&*out == want)
 }
 
 fn round_agrees<E: Field>(elements: &[E]) -> Option<bool> {
     match elements {
-        [c, h0, h2, r, want] => Some(claim_after(*c, *h0, *h2, *r).equal(*want)),
+        [c, h0, h2, r, want] => Some(claim_after(*c, *h0, *h2, *r) == *want),
         _ => None,
     }
 }
 
+// Kept: a match on the kind of a line, one arm each, says what is compared; a closure for each kind would say no more.
 fn holds<E: Field>(kind: Kind, n: usize, elements: &[E], scratch: &mut [E]) -> Option<bool> {
     match kind {
-        Kind::Eq => weight_agrees(false, n, elements),
-        Kind::Select => weight_agrees(true, n, elements),
+        Kind::Eq => weight_agrees(eq_at, n, elements),
+        Kind::Select => weight_agrees(select_at, n, elements),
         Kind::Value => value_agrees(n, elements, scratch),
         Kind::Expand => expansion_agrees(n, elements, scratch),
         Kind::Round => round_agrees(elements),
     }
 }
 
-fn agrees<F: BaseField, E: ExtensionField<F>>(
-    heap: Global,
-    kind: Kind,
-    n: usize,
-    numbers: &[u32],
-) -> anyhow::Result<bool> {
+fn agrees<F: BaseField, E: ExtensionField<F>>(heap: Global, case: &Case) -> anyhow::Result<bool> {
     let mut elements = Vec::new(heap);
-    let mut scratch = Vec::new(heap);
-    for coefficients in numbers.chunks(E::degree().max(1)) {
-        let Some(x) = element::<F, E>(coefficients) else {
+    for coefficients in case.coefficients.chunks(E::degree().max(1)) {
+        let Some(x) = from_numbers::<F, E>(coefficients) else {
             return Ok(false);
         };
         elements.push(x)?;
-        scratch.push(x)?;
     }
-    Ok(holds(kind, n, &elements, &mut scratch).unwrap_or(false))
+    let mut scratch = elements.clone()?;
+    Ok(holds(case.kind, case.variables, &elements, &mut scratch).unwrap_or(false))
 }
 
-fn below_257(
-    heap: Global,
-    kind: Kind,
-    degree: u32,
-    n: usize,
-    numbers: &[u32],
-) -> anyhow::Result<bool> {
+fn agrees_over<F: BaseField>(heap: Global, degree: u32, case: &Case) -> anyhow::Result<bool> {
     match degree {
-        1 => agrees::<Residue<257>, Residue<257>>(heap, kind, n, numbers),
-        2 => agrees::<Residue<257>, Pair<Residue<257>>>(heap, kind, n, numbers),
-        4 => agrees::<Residue<257>, Pair<Pair<Residue<257>>>>(heap, kind, n, numbers),
-        8 => agrees::<Residue<257>, Pair<Pair<Pair<Residue<257>>>>>(heap, kind, n, numbers),
+        1 => agrees::<F, F>(heap, case),
+        2 => agrees::<F, Pair<F>>(heap, case),
+        4 => agrees::<F, Pair<Pair<F>>>(heap, case),
+        8 => agrees::<F, Pair<Pair<Pair<F>>>>(heap, case),
         _ => Ok(false),
     }
 }
 
-fn below_65537(
-    heap: Global,
-    kind: Kind,
-    degree: u32,
-    n: usize,
-    numbers: &[u32],
-) -> anyhow::Result<bool> {
-    match degree {
-        1 => agrees::<Residue<65537>, Residue<65537>>(heap, kind, n, numbers),
-        2 => agrees::<Residue<65537>, Pair<Residue<65537>>>(heap, kind, n, numbers),
-        4 => agrees::<Residue<65537>, Pair<Pair<Residue<65537>>>>(heap, kind, n, numbers),
-        8 => agrees::<Residue<65537>, Pair<Pair<Pair<Residue<65537>>>>>(heap, kind, n, numbers),
-        _ => Ok(false),
-    }
-}
-
-// A round has no number of variables.
 fn line_agrees(heap: Global, kind: Kind, line: &[u32]) -> anyhow::Result<bool> {
-    let [modulus, degree, rest @ ..] = line else {
-        return Ok(false);
-    };
-    let (n, numbers) = match (kind, rest) {
-        (Kind::Round, numbers) => (0, numbers),
-        (_, [n, numbers @ ..]) => (*n as usize, numbers),
+    let (modulus, degree, variables, coefficients) = match (kind, line) {
+        (Kind::Round, [modulus, degree, coefficients @ ..]) => (*modulus, *degree, 0, coefficients),
+        (_, [modulus, degree, n, coefficients @ ..]) => (*modulus, *degree, *n, coefficients),
         _ => return Ok(false),
     };
-    match *modulus {
-        257 => below_257(heap, kind, *degree, n, numbers),
-        65537 => below_65537(heap, kind, *degree, n, numbers),
+    let case = Case {
+        kind,
+        variables: variables as usize,
+        coefficients,
+    };
+    match modulus {
+        257 => agrees_over::<Residue<257>>(heap, degree, &case),
+        65537 => agrees_over::<Residue<65537>>(heap, degree, &case),
         _ => Ok(false),
     }
 }
 
+// Kept: each program of stored lines counts them by itself, since which lines count and what is printed differ.
 fn main(rt: HostRuntime) -> anyhow::Result<()> {
     let mut count = 0u64;
     let mut agree = 0u64;
     for line in rt.lines(rt.alloc()) {
         let line = line?;
-        let mut numbers = Vec::new(rt.alloc());
         let mut words = line.split_whitespace();
-        let kind = match words.next() {
-            Some(word) => kind_of(word),
-            None => None,
-        };
+        let kind = words.next().and_then(|word| word.parse::<Kind>().ok());
+        let mut numbers = Vec::new(rt.alloc());
         for word in words {
             numbers.push(word.parse::<u32>()?)?;
         }

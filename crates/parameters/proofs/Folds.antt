@@ -1,5 +1,5 @@
 -- Clamped folds: how often, by how much, and what they leave.
-use Rattle.std.proofs.Common.{◌≡◌, ℕ, zero, suc, ◌+◌, ◌-◌, ◌*◌, ◌<◌, ◌≤◌, min, Bool, true, false, cond, leb, List, [], ◌∷◌, ◌++◌, map, sym, refl, ap, ◌∙◌, append_assoc, add-mul, one-mul, zero-mul, arith, below_more}
+use Rattle.std.proofs.Common.{◌≡◌, ℕ, zero, suc, ◌+◌, ◌-◌, ◌*◌, ◌<◌, ◌≤◌, min, Bool, true, false, cond, leb, List, [], ◌∷◌, ◌++◌, map, sym, refl, ap, ◌∙◌, add-mul, one-mul, arith, below_more}
 use Rattle.std.specs.List.{range_with_len}
 use Rattle.std.proofs.lemmas.List.FromFn.{map-range_with_len_more}
 use Rattle.std.proofs.lemmas.Bool.{le-leb, lt-leb}
@@ -51,40 +51,32 @@ more_times j f = add-mul j 1 f ∙ ap (λ x. j * f + x) (one-mul f)
 pub less_left : (f left j now : ℕ) → now ≡ left - j * f → now - min f now ≡ left - (j + 1) * f
 less_left f left j now e = omega (arith, more_times j f)
 
--- so many folds were made, each of them needed
-pub record Folding (t f left now : ℕ) (before items : List ℕ) : Type 0 where
+-- so many folds were made after the first, each of them needed
+pub record Folding (t f left now first_factor : ℕ) (items : List ℕ) : Type 0 where
   pub count : ℕ
   pub remains : now ≡ left - count * f
-  pub made : items ≡ before ++ map (part f left) (range_with_len 0 count)
+  pub made : items ≡ first_factor ∷ map (part f left) (range_with_len 0 count)
   pub needed : (i : ℕ) → i < count → t < left - i * f
   pub bound : count + now ≤ left
 
-pub folding_none : (t f left : ℕ) (before : List ℕ) → Folding t f left left before (before ++ [])
-folding_none t f left before =
-    record { count = 0; remains = omega (arith, zero-mul f); made = refl; needed = λ i h. absurd (omega arith); bound = omega arith }
-
-needed_more : (t f left now j : ℕ) → now ≡ left - j * f → t < now → ((i : ℕ) → i < j → t < left - i * f) → (i : ℕ) → i < j + 1 → t < left - i * f
-needed_more t f left now j e h low =
-    below_more (λ i. t < left - i * f) j low (omega arith)
-
-pub folding_more : (t f left now : ℕ) (before items : List ℕ) → 0 < f → t < now → Folding t f left now before items
-    → Folding t f left (now - min f now) before (items ++ min f now ∷ [])
-folding_more t f left now before items pos h fo =
+pub folding_more : (t f left now k : ℕ) (items : List ℕ) → 0 < f → t < now → Folding t f left now k items
+    → Folding t f left (now - min f now) k (items ++ min f now ∷ [])
+folding_more t f left now k items pos h fo =
     let here : min f now ≡ part f left fo.count = ap (min f) fo.remains in
     record {
       count = fo.count + 1;
       remains = less_left f left fo.count now fo.remains;
-      made = ap (λ l. l ++ min f now ∷ []) fo.made ∙ append_assoc before (map (part f left) (range_with_len 0 fo.count)) (min f now ∷ [])
-          ∙ ap (λ x. before ++ (map (part f left) (range_with_len 0 fo.count) ++ x ∷ [])) here
-          ∙ ap (λ l. before ++ l) (sym (map-range_with_len_more (part f left) 0 fo.count fo.count (omega arith)));
-      needed = needed_more t f left now fo.count fo.remains h fo.needed;
+      made = ap (λ l. l ++ min f now ∷ []) fo.made
+          ∙ ap (λ x. k ∷ (map (part f left) (range_with_len 0 fo.count) ++ x ∷ [])) here
+          ∙ ap (λ l. k ∷ l) (sym (map-range_with_len_more (part f left) 0 fo.count fo.count (omega arith)));
+      needed = below_more (λ i. t < left - i * f) fo.count fo.needed (omega (arith, fo.remains));
       bound = omega (arith, fo.bound);
     }
 
-pub folding_all : (t f left now : ℕ) (before items : List ℕ) → now ≤ t → Folding t f left now before items → items ≡ before ++ clamped t f left
+pub folding_all : (t f left now k : ℕ) (items : List ℕ) → now ≤ t → Folding t f left now k items → items ≡ k ∷ clamped t f left
 unfolding clamped
-folding_all t f left now before items h fo =
+folding_all t f left now k items h fo =
     let count : folds t f left ≡ fo.count =
     first_least left fo.count (λ j. leb (left - j * f) t) (λ i k. lt-leb _ _ (fo.needed i k))
     (le-leb _ _ (omega (arith, fo.remains))) (omega (arith, fo.bound)) in
-    fo.made ∙ ap (λ n. before ++ map (part f left) (range_with_len 0 n)) (sym count)
+    fo.made ∙ ap (λ n. k ∷ map (part f left) (range_with_len 0 n)) (sym count)

@@ -1,22 +1,13 @@
 -- The law of a schedule, for every strategy.
-use Rattle.std.proofs.Common.{◌≡◌, ℕ, zero, suc, ◌+◌, ◌-◌, ◌*◌, ◌<◌, ◌≤◌, ◌||◌, eqb, ltb, leb, List, [], ◌∷◌, map, length, take, IfOk, Ok, Err, vec_items, sum, Result, Vec, sym, refl, ◌∙◌, subst, ⊎_elim, mul-le-mul_left, zero-mul, mul-one, add-one, arith}
+use Rattle.std.proofs.Common.{◌≡◌, ℕ, zero, suc, ◌+◌, ◌-◌, ◌*◌, ◌<◌, ◌≤◌, leb, List, [], ◌∷◌, map, length, take, sum, refl, ◌∙◌, subst, ◌⊎◌, ⊎_elim, mul-le-mul_left, zero-mul, mul-one, add-one, arith}
 use Rattle.std.specs.List.{range_with_len, AllByRecursion}
 use Rattle.std.proofs.lemmas.List.FromFn.{length-map-range_with_len, get_or-map-range_with_len, take-map-range_with_len, sum_by-map-range_with_len_more}
 use Rattle.std.proofs.ByRecursion.{All-from_get_or}
 use Rattle.std.proofs.lemmas.List.Sums.{sum_by-cons}
-use Rattle.std.proofs.lemmas.Bool.{cases_Bool, cond-true, cond-false, or_parts, eqb-false, ltb-false, leb-true, leb-false, le-leb}
-use Rattle.parameters.specs.declared.errors.ScheduleError.{ScheduleError}
-use Rattle.parameters.specs.Refusals.{Refusal}
-use Rattle.parameters.specs.Schedule.{Strategy, constant, second, per_round, Verdict, planned, refused, folds, clamped, by_factors, before, walk, unless_faulty, listed, schedule, Lawful, SchedulesLawful}
-use Rattle.parameters.specs.declared.folding.FoldingFactor.{FoldingFactor}
-use Rattle.parameters.specs.Replies.{strategy_of, said, Answers}
+use Rattle.std.proofs.lemmas.Bool.{leb-true, leb-false, le-leb}
+use Rattle.std.proofs.lemmas.Bool.Decides.{nat_tests}
+use Rattle.parameters.specs.Schedule.{constant, second, per_round, Verdict, planned, refused, folds, clamped, by_factors, before, walk, unless_faulty, listed, Lawful, SchedulesLawful}
 use Rattle.parameters.proofs.Folds.{part, more_times, first_passes, first_misses}
-
-never : {X : Type 0} (e : Refusal) (ks : List ℕ) → refused e ≡ planned ks → X
-never e ks p = let z : ◌≡◌ {A = ℕ} 0 1 = cc in absurd (omega arith)
-
-same_plan : (ks ls : List ℕ) → planned ks ≡ planned ls → ks ≡ ls
-same_plan ks ls p = cc
 
 -- m folds by g take what they do not leave
 parts_sum : (g left m : ℕ) → sum (map (part g left) (range_with_len 0 m)) ≡ left - (left - m * g)
@@ -61,21 +52,16 @@ factors_lawful t f g n fpos gpos le =
       needed = λ j pos h. factors_needed t f g n j le pos h;
     }
 
+by_factors_planned : (t f g n : ℕ) (ks : List ℕ) → by_factors t f g n ≡ planned ks → (0 < f) × (0 < g) × (f ≤ n) × (f ∷ clamped t g (n - f) ≡ ks)
+by_factors_planned t f g n ks p = grind (arith, nat_tests)
+
 by_factors_lawful : (t f g n : ℕ) (ks : List ℕ) → by_factors t f g n ≡ planned ks → Lawful t n ks
 by_factors_lawful t f g n ks p =
-    ⊎_elim (λ b. never _ ks (sym (cond-true (eqb f 0 || eqb g 0) _ _ b) ∙ p))
-    (λ b.
-    let q = sym (cond-false (eqb f 0 || eqb g 0) _ _ b) ∙ p in
-    ⊎_elim (λ l. never _ ks (sym (cond-true (ltb n f) _ _ l) ∙ q))
-    (λ l. subst (Lawful t n) (same_plan _ ks (sym (cond-false (ltb n f) _ _ l) ∙ q))
-    (factors_lawful t f g n (omega (arith, eqb-false f 0 (or_parts (eqb f 0) (eqb g 0) b).0))
-    (omega (arith, eqb-false g 0 (or_parts (eqb f 0) (eqb g 0) b).1)) (ltb-false n f l)))
-    (cases_Bool (ltb n f)))
-    (cases_Bool (eqb f 0 || eqb g 0))
+    let q = by_factors_planned t f g n ks p in subst (Lawful t n) q.3 (factors_lawful t f g n q.0 q.1 q.2)
 
 before_planned : (k : ℕ) (v : Verdict) (ks : List ℕ) → before k v ≡ planned ks → (ls : List ℕ) × (v ≡ planned ls) × (k ∷ ls ≡ ks)
-before_planned k (planned ls) ks p = (ls, refl, same_plan (k ∷ ls) ks p)
-before_planned k (refused e) ks p = never e ks p
+before_planned k (planned ls) ks p = (ls, refl, cc)
+before_planned k (refused e) ks p = cc
 
 one_lawful : (t left k : ℕ) → 1 ≤ k → k ≤ left → left - k ≤ t → Lawful t left (k ∷ [])
 one_lawful t left k pos le enough =
@@ -103,36 +89,32 @@ cons_lawful t left k ls pos le h law =
       needed = λ j a b. cons_needed t left k j ls le h law a b;
     }
 
+walk_planned : (t n left k : ℕ) (all ks : List ℕ) → walk t n left (k ∷ all) ≡ planned ks
+    → (k ≤ left) × (((left - k ≤ t) × (k ∷ [] ≡ ks)) ⊎ ((t < left - k) × (before k (walk t n (left - k) all) ≡ planned ks)))
+walk_planned t n left k all ks p = grind (arith, nat_tests)
+
 walk_lawful : (t n left : ℕ) (all ks : List ℕ) → AllByRecursion (λ k. 1 ≤ k) all → walk t n left all ≡ planned ks → Lawful t left ks
-walk_lawful t n left [] ks ok p = never _ ks p
+walk_lawful t n left [] ks ok p = cc
 walk_lawful t n left (k ∷ all) ks ok p =
-    ⊎_elim (λ l. never _ ks (sym (cond-true (ltb left k) _ _ l) ∙ p))
-    (λ l.
-    let q = sym (cond-false (ltb left k) _ _ l) ∙ p in
-    let le = ltb-false left k l in
-    ⊎_elim (λ s. subst (Lawful t left) (same_plan _ ks (sym (cond-true (leb (left - k) t) _ _ s) ∙ q))
-    (one_lawful t left k ok.0 le (leb-true (left - k) t s)))
+    let q = walk_planned t n left k all ks p in
+    ⊎_elim (λ s. subst (Lawful t left) s.1 (one_lawful t left k ok.0 q.0 s.0))
     (λ s.
-    let m = before_planned k (walk t n (left - k) all) ks (sym (cond-false (leb (left - k) t) _ _ s) ∙ q) in
-    subst (Lawful t left) m.2
-    (cons_lawful t left k m.0 ok.0 le (leb-false (left - k) t s) (walk_lawful t n (left - k) all m.0 ok.1 m.1)))
-    (cases_Bool (leb (left - k) t)))
-    (cases_Bool (ltb left k))
+    let m = before_planned k (walk t n (left - k) all) ks s.1 in
+    subst (Lawful t left) m.2 (cons_lawful t left k m.0 ok.0 q.0 s.0 (walk_lawful t n (left - k) all m.0 ok.1 m.1)))
+    q.1
+
+faultless_more : (n k : ℕ) (all : List ℕ) (v : Verdict) (ks : List ℕ) → unless_faulty n (k ∷ all) v ≡ planned ks → (1 ≤ k) × (unless_faulty n all v ≡ planned ks)
+faultless_more n k all v ks p = grind (arith, nat_tests)
 
 faultless : (n : ℕ) (all : List ℕ) (v : Verdict) (ks : List ℕ) → unless_faulty n all v ≡ planned ks → AllByRecursion (λ k. 1 ≤ k) all × (v ≡ planned ks)
 faultless n [] v ks p = (tt, p)
 faultless n (k ∷ all) v ks p =
-    ⊎_elim (λ z. never _ ks (sym (cond-true (eqb k 0) _ _ z) ∙ p))
-    (λ z.
-    let q = sym (cond-false (eqb k 0) _ _ z) ∙ p in
-    ⊎_elim (λ l. never _ ks (sym (cond-true (ltb n k) _ _ l) ∙ q))
-    (λ l. let rest = faultless n all v ks (sym (cond-false (ltb n k) _ _ l) ∙ q) in
-    ((omega (arith, eqb-false k 0 z), rest.0), rest.1))
-    (cases_Bool (ltb n k)))
-    (cases_Bool (eqb k 0))
+    let q = faultless_more n k all v ks p in
+    let rest = faultless n all v ks q.1 in
+    ((q.0, rest.0), rest.1)
 
 listed_lawful : (t n : ℕ) (all ks : List ℕ) → listed t all n ≡ planned ks → Lawful t n ks
-listed_lawful t n [] ks p = never _ ks p
+listed_lawful t n [] ks p = cc
 listed_lawful t n (k ∷ all) ks p =
     let m = faultless n (k ∷ all) (walk t n n (k ∷ all)) ks p in
     walk_lawful t n n (k ∷ all) ks m.0 m.1
@@ -141,14 +123,3 @@ pub schedules_lawful : SchedulesLawful
 schedules_lawful t n (constant f) ks p = by_factors_lawful t f f n ks p
 schedules_lawful t n (second f g) ks p = by_factors_lawful t f g n ks p
 schedules_lawful t n (per_round all) ks p = listed_lawful t n all ks p
-
--- so an answer keeps the law
-answer_lawful : {Z : Type 0} (t n : ℕ) (s : Strategy) (r : Result (Vec ℕ Z) ScheduleError) → Answers (said r) (schedule t s n)
-    → IfOk r (λ ks. Lawful t n (vec_items ks))
-answer_lawful t n s (Ok ks) a = schedules_lawful t n s (vec_items ks) (sym a)
-answer_lawful t n s (Err e) a = tt
-
-pub answered : {Z : Type 0} (t n : ℕ) (f g : FoldingFactor) (r : Result (Vec ℕ Z) ScheduleError) → f ≡ g
-    → Answers (said r) (schedule t (strategy_of g) n) → Answers (said r) (schedule t (strategy_of f) n) × IfOk r (λ ks. Lawful t n (vec_items ks))
-answered t n f g r e a =
-    (subst (λ h. Answers (said r) (schedule t (strategy_of h) n)) (sym e) a, answer_lawful t n (strategy_of g) r a)

@@ -1,3 +1,4 @@
 pub mod Refusals
 pub mod Schedule
 pub mod Replies
+pub mod Plans

@@ -1,5 +1,5 @@
 -- How the code's values are read: a strategy, a refusal by its number and values, an answer.
-use Rattle.std.specs.Prelude.{◌≡◌, ℕ, zero, suc, ◌-◌, ◌≤◌, List, length, take, Some, Ok, Err, vec_items, sum, Option, Result, Vec}
+use Rattle.std.specs.Prelude.{◌≡◌, ℕ, zero, suc, ◌-◌, List, length, Some, Ok, Err, vec_items, sum, Option, Result, Vec}
 use Rattle.std.specs.List.{slice_get}
 use Rattle.parameters.specs.declared.errors.FoldingFactorError.{FoldingFactorError}
 use Rattle.parameters.specs.declared.errors.FoldingFactorError.TheVariants.{TooLarge, ZeroFactor, InsufficientFolding, EmptySchedule}
@@ -59,10 +59,10 @@ Counts n (Err (Folding e)) v = refused (told e) ≡ v
 Counts n (Err OutOfMemory) (planned ks) = Unit {0}
 Counts n (Err OutOfMemory) (refused e) = ⊥
 
--- How many of the listed factors a plan has, or the fault.
-abbrev pub Reaches : List ℕ → Result ℕ FoldingFactorError → Verdict → Type 0
-Reaches ks (Ok count) v = (planned (take count ks) ≡ v) × (count ≤ length ks)
-Reaches ks (Err e) v = refused (told e) ≡ v
+-- What a search for the folds of a strategy found: it comes to the factors of the plan, or it is the fault.
+abbrev pub Finds : {P : Type 0} → (P → List ℕ) → Result P FoldingFactorError → Verdict → Type 0
+Finds factors (Ok p) v = planned (factors p) ≡ v
+Finds factors (Err e) v = refused (told e) ≡ v
 
 -- A test before a verdict: it passes and the verdict stands, or its fault is the verdict, whatever follows.
 abbrev pub Passes : Result Unit FoldingFactorError → (Verdict → Verdict) → Type 0

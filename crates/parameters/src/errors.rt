@@ -3,18 +3,21 @@ ghost use Rattle.std.specs.Prelude.{◌≡◌};
 ghost use Rattle.parameters.specs.declared.errors.ScheduleError.TheVariants.{Folding, OutOfMemory};
 
 use std::alloc::{AllocError, AllocFailed};
-use std::fmt;
+use thiserror::Error;
 
-// Errors that can occur when validating a folding factor.
-#[derive(Clone, Copy, PartialEq, Eq, Debug)]
+// Errors that can occur when validating a folding factor, read out as the name and the values.
+#[derive(Clone, Copy, PartialEq, Eq, Debug, Error)]
 pub enum FoldingFactorError {
     // The folding factor is larger than the number of variables.
+    #[error("TooLarge {0} {1}")]
     TooLarge(usize, usize),
 
     // The folding factor cannot be zero.
+    #[error("ZeroFactor")]
     ZeroFactor,
 
     // The explicit per-round folding factors fold too few variables to reach the direct-send threshold.
+    #[error("InsufficientFolding {num_variables} {remaining} {threshold}")]
     InsufficientFolding {
         num_variables: usize,
         remaining: usize,
@@ -22,13 +25,16 @@ pub enum FoldingFactorError {
     },
 
     // The explicit per-round schedule contains no folding factors.
+    #[error("EmptySchedule")]
     EmptySchedule,
 }
 
 // Why a schedule was not made: a fault of the strategy, or want of memory for the list.
-#[derive(Clone, Copy, PartialEq, Eq, Debug)]
+#[derive(Clone, Copy, PartialEq, Eq, Debug, Error)]
 pub enum ScheduleError {
+    #[error(transparent)]
     Folding(FoldingFactorError),
+    #[error("out of memory")]
     OutOfMemory,
 }
 
@@ -40,6 +46,7 @@ impl From<FoldingFactorError> for ScheduleError {
     }
 }
 
+// Kept: want of memory comes as either of two errors, and a clause has to know what `?` makes of each.
 impl From<AllocError> for ScheduleError {
     ghost from_gives = { λ _ r. r ≡ OutOfMemory };
 
@@ -53,24 +60,5 @@ impl<T: Drop> From<AllocFailed<T>> for ScheduleError {
 
     fn from(_e: AllocFailed<T>) -> ScheduleError {
         ScheduleError::OutOfMemory
-    }
-}
-
-// The name and the values, as they are read out.
-impl fmt::Display for FoldingFactorError {
-    fn fmt<W: fmt::Write>(&self, f: &mut fmt::Formatter<W>) -> fmt::Result {
-        match *self {
-            FoldingFactorError::TooLarge(factor, left) => write!(f, "TooLarge {factor} {left}"),
-            FoldingFactorError::ZeroFactor => write!(f, "ZeroFactor"),
-            FoldingFactorError::InsufficientFolding {
-                num_variables,
-                remaining,
-                threshold,
-            } => write!(
-                f,
-                "InsufficientFolding {num_variables} {remaining} {threshold}"
-            ),
-            FoldingFactorError::EmptySchedule => write!(f, "EmptySchedule"),
-        }
     }
 }

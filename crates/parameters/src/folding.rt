@@ -1,7 +1,7 @@
 // Folding factor strategies for variable reduction across WHIR rounds.
 ghost use Rattle.std.specs.Prelude.{◌≡◌, ℕ, ◌-◌, ◌<◌, ◌≤◌, ◌∷◌, IfOk, sum, OnOk};
-ghost use Rattle.parameters.specs.Schedule.{schedule, walk, clamped, by_factors, listed, unless_faulty, Lawful, SchedulesLawful, SampleSchedules};
-ghost use Rattle.parameters.specs.Replies.{strategy_of, factor_at, said, Answers, Tells, Counts, Reaches, Passes};
+ghost use Rattle.parameters.specs.Schedule.{schedule, walk, by_factors, listed, unless_faulty, Lawful, SchedulesLawful, SampleSchedules};
+ghost use Rattle.parameters.specs.Replies.{strategy_of, factor_at, said, Answers, Tells, Counts, Finds, Passes};
 
 use crate::errors::{FoldingFactorError, ScheduleError};
 use std::alloc::{AllocError, Global};
@@ -12,7 +12,7 @@ use std::alloc::{AllocError, Global};
 const MAX_NUM_VARIABLES_TO_SEND_COEFFS: usize = 6;
 
 // Defines the folding factor for polynomial commitments.
-#[derive(Drop, Debug)]
+#[derive(Drop, PartialEq, Eq, Debug)]
 pub enum FoldingFactor {
     // A fixed folding factor used in all rounds.
     Constant(usize),
@@ -25,6 +25,8 @@ pub enum FoldingFactor {
 }
 
 impl FoldingFactor {
+    ghost use Rattle.parameters.specs.Plans.{planned_factors};
+
     // Retrieves the nominal configured folding factor for a given round; none past the end of a list.
     //
     // This does not apply the partial-final-fold clamp used by constant schedules.
@@ -32,21 +34,12 @@ impl FoldingFactor {
         ensures { result ≡ factor_at (strategy_of self.now) round }
     {
         match self {
-            FoldingFactor::Constant(factor) => Some(*factor),
-            FoldingFactor::ConstantFromSecondRound(first_round_factor, factor) => {
-                if round == 0 {
-                    Some(*first_round_factor)
-                } else {
-                    Some(*factor)
-                }
+            FoldingFactor::ConstantFromSecondRound(first_round_factor, _) if round == 0 => {
+                Some(*first_round_factor)
             }
-            FoldingFactor::PerRound(factors) => {
-                if round < factors.len() {
-                    Some(factors[round])
-                } else {
-                    None
-                }
-            }
+            FoldingFactor::Constant(factor) | FoldingFactor::ConstantFromSecondRound(_, factor) =>
+                Some(*factor),
+            FoldingFactor::PerRound(factors) => factors.get(round).copied(),
         }
     }
 
@@ -54,7 +47,8 @@ impl FoldingFactor {
     pub fn check_validity(&self, num_variables: usize) -> Result<(), FoldingFactorError>
         ensures { Tells result (schedule 6 (strategy_of self.now) num_variables) }
     {
-        self.check_against(num_variables, MAX_NUM_VARIABLES_TO_SEND_COEFFS)
+        self.plan(Reduction::to_direct_send(num_variables))?;
+        Ok(())
     }
 
     // Derive the concrete folding factors used before the final direct-send phase.
@@ -70,7 +64,10 @@ impl FoldingFactor {
         ensures answers { Answers (said result) (schedule 6 (strategy_of self.now) num_variables) }
         ensures lawful { IfOk result (λ ks. Lawful 6 num_variables ks.items) }
     {
-        self.schedule_to(heap, num_variables, MAX_NUM_VARIABLES_TO_SEND_COEFFS)
+        Ok(
+            self.plan(Reduction::to_direct_send(num_variables))?
+                .schedule(heap)?,
+        )
     }
 
     // Compute the round schedule: number of folding rounds and final-phase variables.
@@ -86,200 +83,182 @@ impl FoldingFactor {
         Ok((schedule.len() - 1, remaining))
     }
 
-    // The faults of the strategy at any threshold, without the schedule.
-    fn check_against(
-        &self,
-        num_variables: usize,
-        threshold: usize,
-    ) -> Result<(), FoldingFactorError>
-        ensures { Tells result (schedule threshold (strategy_of self.now) num_variables) }
+    // The folds of the strategy, or its first fault.
+    fn plan(&self, reduction: Reduction) -> Result<Plan<'_>, FoldingFactorError>
+        ensures { Finds planned_factors result (schedule reduction.threshold (strategy_of self.now) reduction.num_variables) }
     {
-        match self {
-            FoldingFactor::Constant(factor) => check_factors(*factor, *factor, num_variables),
+        Ok(match self {
+            FoldingFactor::Constant(factor) => {
+                Plan::Clamped(reduction.clamped(*factor, *factor)?)
+            }
             FoldingFactor::ConstantFromSecondRound(first_round_factor, factor) => {
-                check_factors(*first_round_factor, *factor, num_variables)
+                Plan::Clamped(reduction.clamped(*first_round_factor, *factor)?)
             }
-            FoldingFactor::PerRound(factors) => {
-                let _count = count_factors(factors.as_slice(), num_variables, threshold)?;
-                Ok(())
-            }
+            FoldingFactor::PerRound(factors) => Plan::Listed(reduction.listed(factors)?),
+        })
+    }
+}
+
+// What a schedule has to bring about: so many variables are folded until no more than the threshold are left.
+#[derive(Clone, Copy)]
+struct Reduction {
+    num_variables: usize,
+    threshold: usize,
+}
+
+// Folds by a first factor, exactly, then by another one, or by what is left where that is less.
+#[derive(Clone, Copy)]
+struct ClampedFolds {
+    reduction: Reduction,
+    first_round_factor: usize,
+    factor: usize,
+    ghost first_within: { first_round_factor ≤ reduction.num_variables },
+    ghost factor_folds: { 0 < factor },
+}
+
+// The folds of a strategy without a fault, before the list of them is made.
+#[derive(Clone, Copy)]
+enum Plan<'a> {
+    Clamped(ClampedFolds),
+
+    // The listed factors that it takes.
+    Listed(&'a [usize]),
+}
+
+impl Reduction {
+    ghost use Rattle.parameters.specs.Plans.{clamped_factors};
+
+    // Folding down to so few variables that the coefficients are sent directly.
+    fn to_direct_send(num_variables: usize) -> Self
+        ensures variables { result.num_variables ≡ num_variables }
+        ensures threshold { result.threshold ≡ 6 }
+    {
+        Reduction {
+            num_variables,
+            threshold: MAX_NUM_VARIABLES_TO_SEND_COEFFS,
         }
     }
 
-    // The schedule at any threshold.
-    fn schedule_to(
-        &self,
-        heap: Global,
-        num_variables: usize,
-        threshold: usize,
-    ) -> Result<Vec<usize>, ScheduleError>
-        ensures answers { Answers (said result) (schedule threshold (strategy_of self.now) num_variables) }
-        ensures lawful { IfOk result (λ ks. Lawful threshold num_variables ks.items) }
+    // A first fold and clamped ones after it: no factor is zero, and the first is exact.
+    fn clamped(
+        self,
+        first_round_factor: usize,
+        factor: usize,
+    ) -> Result<ClampedFolds, FoldingFactorError>
+        ensures { Finds clamped_factors result (by_factors self.threshold first_round_factor factor self.num_variables) }
     {
-        match self {
-            FoldingFactor::Constant(factor) => fold_by(
-                heap,
-                *factor,
-                *factor,
-                num_variables,
-                threshold,
-            ),
-            FoldingFactor::ConstantFromSecondRound(first_round_factor, factor) => {
-                fold_by(heap, *first_round_factor, *factor, num_variables, threshold)
-            }
-            FoldingFactor::PerRound(factors) => fold_listed(
-                heap,
-                factors.as_slice(),
-                num_variables,
-                threshold,
-            ),
-        }
-    }
-}
-
-// A first fold and clamped ones after it: no factor is zero, and the first is exact.
-fn check_factors(
-    first_round_factor: usize,
-    factor: usize,
-    num_variables: usize,
-) -> Result<(), FoldingFactorError>
-    ensures tells { (threshold : ℕ) → Tells result (by_factors threshold first_round_factor factor num_variables) }
-    ensures sound { OnOk result ((0 < first_round_factor) × (0 < factor) × (first_round_factor ≤ num_variables)) }
-{
-    if first_round_factor == 0 || factor == 0 {
-        return Err(FoldingFactorError::ZeroFactor);
-    }
-    if first_round_factor > num_variables {
-        return Err(FoldingFactorError::TooLarge(first_round_factor, num_variables));
-    }
-    Ok(())
-}
-
-// The schedule of a first factor and another one after it.
-fn fold_by(
-    heap: Global,
-    first_round_factor: usize,
-    factor: usize,
-    num_variables: usize,
-    threshold: usize,
-) -> Result<Vec<usize>, ScheduleError>
-    ensures { Answers (said result) (by_factors threshold first_round_factor factor num_variables) }
-{
-    check_factors(first_round_factor, factor, num_variables)?;
-    Ok(fold_all(heap, first_round_factor, factor, num_variables, threshold)?)
-}
-
-// The folds of factors without a fault.
-fn fold_all(
-    heap: Global,
-    first_round_factor: usize,
-    factor: usize,
-    num_variables: usize,
-    threshold: usize,
-) -> Result<Vec<usize>, AllocError>
-    requires { (0 < factor) × (first_round_factor ≤ num_variables) }
-    ensures { IfOk result (λ ks. ks.items ≡ first_round_factor ∷ clamped threshold factor (num_variables - first_round_factor)) }
-{
-    let mut schedule = Vec::new(heap);
-    schedule.push(first_round_factor)?;
-    let mut remaining = num_variables - first_round_factor;
-    while remaining > threshold {
-        let round_factor = factor.min(remaining);
-        schedule.push(round_factor)?;
-        remaining -= round_factor;
-    }
-    Ok(schedule)
-}
-
-// The schedule of listed factors: as many of them as it takes.
-fn fold_listed(
-    heap: Global,
-    factors: &[usize],
-    num_variables: usize,
-    threshold: usize,
-) -> Result<Vec<usize>, ScheduleError>
-    ensures { Answers (said result) (listed threshold factors.now num_variables) }
-{
-    let count = count_factors(factors, num_variables, threshold)?;
-    Ok(Vec::from_slice(heap, &factors[0..count])?)
-}
-
-// How many of the listed factors it takes, or the first fault.
-fn count_factors(
-    factors: &[usize],
-    num_variables: usize,
-    threshold: usize,
-) -> Result<usize, FoldingFactorError>
-    ensures { Reaches factors.now result (listed threshold factors.now num_variables) }
-{
-    if factors.is_empty() {
-        return Err(FoldingFactorError::EmptySchedule);
-    }
-    check_listed(factors, num_variables)?;
-    walk_listed(factors, num_variables, threshold)
-}
-
-// No listed factor is zero, or larger than the number of variables at the start.
-fn check_listed(factors: &[usize], num_variables: usize) -> Result<(), FoldingFactorError>
-    ensures { Passes result (unless_faulty num_variables factors.now) }
-{
-    for factor in factors {
-        if *factor == 0 {
+        if first_round_factor == 0 || factor == 0 {
             return Err(FoldingFactorError::ZeroFactor);
         }
-        if *factor > num_variables {
-            return Err(FoldingFactorError::TooLarge(*factor, num_variables));
+        if first_round_factor > self.num_variables {
+            return Err(FoldingFactorError::TooLarge(first_round_factor, self.num_variables));
         }
+        Ok(ClampedFolds {
+            reduction: self,
+            first_round_factor,
+            factor,
+        })
     }
-    Ok(())
+
+    // As many of the listed factors as it takes, or the first fault.
+    #[tactic(auto, using(crate::proofs::Listed::listed_some))]
+    fn listed(self, factors: &[usize]) -> Result<&[usize], FoldingFactorError>
+        ensures { Finds (λ ks. ks.now) result (listed self.threshold factors.now self.num_variables) }
+    {
+        if factors.is_empty() {
+            return Err(FoldingFactorError::EmptySchedule);
+        }
+        self.check_listed(factors)?;
+        self.walk_listed(factors)
+    }
+
+    // No listed factor is zero, or larger than the number of variables at the start.
+    fn check_listed(self, factors: &[usize]) -> Result<(), FoldingFactorError>
+        ensures { Passes result (unless_faulty self.num_variables factors.now) }
+    {
+        for factor in factors {
+            if *factor == 0 {
+                return Err(FoldingFactorError::ZeroFactor);
+            }
+            if *factor > self.num_variables {
+                return Err(FoldingFactorError::TooLarge(*factor, self.num_variables));
+            }
+        }
+        Ok(())
+    }
+
+    // Folds by the listed factors in turn, exactly, until no more than the threshold is left.
+    #[tactic(auto, using(crate::proofs::Listed::walk_steps))]
+    fn walk_listed(self, factors: &[usize]) -> Result<&[usize], FoldingFactorError>
+        ensures { Finds (λ ks. ks.now) result (walk self.threshold self.num_variables self.num_variables factors.now) }
+    {
+        let mut remaining = self.num_variables;
+        for (i, factor) in factors.iter().enumerate() {
+            if *factor > remaining {
+                return Err(FoldingFactorError::TooLarge(*factor, remaining));
+            }
+            remaining -= *factor;
+            if remaining <= self.threshold {
+                return Ok(&factors[..=i]);
+            }
+        }
+        Err(FoldingFactorError::InsufficientFolding {
+            num_variables: self.num_variables,
+            remaining,
+            threshold: self.threshold,
+        })
+    }
 }
 
-// Folds by the listed factors in turn, exactly, until no more than the threshold is left.
-fn walk_listed(
-    factors: &[usize],
-    num_variables: usize,
-    threshold: usize,
-) -> Result<usize, FoldingFactorError>
-    ensures { Reaches factors.now result (walk threshold num_variables num_variables factors.now) }
-{
-    let mut remaining = num_variables;
-    for (i, factor) in factors.iter().enumerate() {
-        if *factor > remaining {
-            return Err(FoldingFactorError::TooLarge(*factor, remaining));
+impl ClampedFolds {
+    ghost use Rattle.parameters.specs.Plans.{clamped_factors};
+
+    // The folds, in turn.
+    #[tactic(auto, using(crate::proofs::Folds::folding_more))]
+    fn schedule(self, heap: Global) -> Result<Vec<usize>, AllocError>
+        ensures { IfOk result (λ ks. ks.items ≡ clamped_factors self) }
+    {
+        let mut schedule = Vec::new(heap);
+        schedule.push(self.first_round_factor)?;
+        let mut remaining = self.reduction.num_variables - self.first_round_factor;
+        while remaining > self.reduction.threshold {
+            let round_factor = self.factor.min(remaining);
+            schedule.push(round_factor)?;
+            remaining -= round_factor;
         }
-        remaining -= *factor;
-        if remaining <= threshold {
-            return Ok(i + 1);
+        Ok(schedule)
+    }
+}
+
+impl Plan<'_> {
+    ghost use Rattle.parameters.specs.Plans.{planned_factors};
+
+    // The list of the factors.
+    fn schedule(self, heap: Global) -> Result<Vec<usize>, AllocError>
+        ensures { IfOk result (λ ks. ks.items ≡ planned_factors self.entry) }
+    {
+        match self {
+            Plan::Clamped(folds) => folds.schedule(heap),
+            Plan::Listed(factors) => Vec::from_slice(heap, factors),
         }
     }
-    Err(FoldingFactorError::InsufficientFolding {
-        num_variables,
-        remaining,
-        threshold,
-    })
 }
 
 // What the factors leave of the variables.
 pub fn variables_left(factors: &[usize], num_variables: usize) -> usize
     ensures { result ≡ num_variables - sum factors.now }
 {
-    let mut remaining = num_variables;
-    for factor in factors {
-        remaining = remaining.saturating_sub(*factor);
-    }
-    remaining
+    factors
+        .iter()
+        .fold(num_variables, |left, factor| left.saturating_sub(*factor))
 }
 
 // Every schedule, at every threshold, strategy and number of variables, keeps the law.
-pub fn schedules_lawful() -> u8
+pub fn schedules_lawful()
     ensures { SchedulesLawful }
-{
-    0
-}
+{}
 
 // Schedules of 15 variables, worked out of the definition.
-pub fn sample_schedules() -> u8
+pub fn sample_schedules()
     ensures { SampleSchedules }
-{
-    0
-}
+{}

@@ -2,23 +2,38 @@
 // implementation gave. It prints each line that is answered otherwise, and at the end how many lines were compared.
 #![tactic(auto)]
 
-use anyhow::anyhow;
 use parameters::errors::ScheduleError;
 use parameters::folding::FoldingFactor;
-use std::alloc::Global;
+use std::alloc::{AllocError, Global};
+use std::fmt::Write;
 use std::io::{BufRead, BufReader};
+use thiserror::Error;
+
+// Why a line has no answer of ours.
+#[derive(Debug, Drop, Error)]
+enum LineError {
+    #[error("the line is no strategy with its answer")]
+    Unreadable,
+    #[error(transparent)]
+    OutOfMemory(#[from(alloc)] AllocError),
+}
 
 fn main(rt: HostRuntime) -> anyhow::Result<()> {
     run(&rt)
 }
 
+// Kept: each program of stored lines counts them by itself, since which lines count and what is printed differ.
 fn run(rt: &HostRuntime) -> anyhow::Result<()> {
     let mut compared = 0u64;
     let mut different = 0u64;
     for line in BufReader::new(rt.alloc(), rt.stdin())?.lines(rt.alloc()) {
         let line = line?;
         compared = compared.saturating_add(1);
-        if !agrees(rt.alloc(), line.as_str())? {
+        let same = match agrees(rt.alloc(), line.as_str()) {
+            Err(LineError::Unreadable) => false,
+            answer => answer?,
+        };
+        if !same {
             different = different.saturating_add(1);
             println!(rt; "different: {line}")?;
         }
@@ -27,65 +42,45 @@ fn run(rt: &HostRuntime) -> anyhow::Result<()> {
 }
 
 // Whether the line's answer is ours.
-fn agrees(heap: Global, line: &str) -> anyhow::Result<bool> {
-    let Some((strategy, rest)) = line.split_once(" n ") else {
-        return Ok(false);
-    };
-    let Some((n, expected)) = rest.split_once(' ') else {
-        return Ok(false);
-    };
-    let Some(n) = number(n) else {
-        return Ok(false);
-    };
-    let Some(strategy) = strategy_of(heap, strategy)? else {
-        return Ok(false);
-    };
-    let answer = answer_of(heap, &strategy, n)?;
+fn agrees(heap: Global, line: &str) -> Result<bool, LineError> {
+    let (strategy, rest) = line.split_once(" n ").ok_or(LineError::Unreadable)?;
+    let (n, expected) = rest.split_once(' ').ok_or(LineError::Unreadable)?;
+    let strategy = strategy_of(heap, strategy)?;
+    let answer = answer_of(heap, &strategy, number(n)?)?;
     Ok(answer.as_str() == expected)
 }
 
-fn number(word: &str) -> Option<usize> {
-    match text::number::number(word.as_bytes()) {
-        Some(n) => Some(n as usize),
-        None => None,
-    }
+fn number(word: &str) -> Result<usize, LineError> {
+    text::number::number(word.as_bytes())
+        .map(|n| n as usize)
+        .ok_or(LineError::Unreadable)
 }
 
 // A strategy's name and its numbers; a list has its length before it.
-fn strategy_of(heap: Global, text: &str) -> anyhow::Result<Option<FoldingFactor>> {
-    let mut numbers = Vec::new(heap);
-    let Some((name, words)) = text.split_once(' ') else {
-        return Ok(None);
-    };
-    for word in words.split(' ') {
-        match number(word) {
-            Some(n) => numbers.push(n)?,
-            None => return Ok(None),
+fn strategy_of(heap: Global, text: &str) -> Result<FoldingFactor, LineError> {
+    let (name, words) = text.split_once(' ').ok_or(LineError::Unreadable)?;
+    let numbers: Vec<usize> = words.split(' ').map(number).try_collect(heap)?;
+    match (name, numbers.as_slice()) {
+        ("constant", [f]) => Ok(FoldingFactor::Constant(*f)),
+        ("second", [f, g]) => Ok(FoldingFactor::ConstantFromSecondRound(*f, *g)),
+        ("per_round", [_count, factors @ ..]) => {
+            Ok(FoldingFactor::PerRound(Vec::from_slice(heap, factors)?))
         }
+        _ => Err(LineError::Unreadable),
     }
-    Ok(match (name, numbers.as_slice()) {
-        ("constant", [f]) => Some(FoldingFactor::Constant(*f)),
-        ("second", [f, g]) => Some(FoldingFactor::ConstantFromSecondRound(*f, *g)),
-        ("per_round", [_count, factors @ ..]) => Some(FoldingFactor::PerRound(Vec::from_slice(
-            heap, factors,
-        )?)),
-        _ => None,
-    })
 }
 
 // Our answer in the list's own form.
-fn answer_of(heap: Global, strategy: &FoldingFactor, n: usize) -> anyhow::Result<String> {
-    match strategy.compute_folding_schedule(heap, n) {
-        Ok(factors) => {
-            let count = factors.len();
-            let mut text = format!(in heap; "ok {count}")?;
-            for factor in factors.as_slice() {
-                let word = format!(in heap; " {factor}")?;
-                text.push_str(word.as_str())?;
-            }
-            Ok(text)
-        }
-        Err(ScheduleError::Folding(fault)) => Ok(format!(in heap; "err {fault}")?),
-        Err(ScheduleError::OutOfMemory) => Err(anyhow!("out of memory")),
+fn answer_of(heap: Global, strategy: &FoldingFactor, n: usize) -> Result<String, AllocError> {
+    let factors = match strategy.compute_folding_schedule(heap, n) {
+        Ok(factors) => factors,
+        Err(ScheduleError::Folding(fault)) => return format!(in heap; "err {fault}"),
+        Err(ScheduleError::OutOfMemory) => return Err(AllocError),
+    };
+    let count = factors.len();
+    let mut text = format!(in heap; "ok {count}")?;
+    for factor in &factors {
+        write!(text, " {factor}")?;
     }
+    Ok(text)
 }

@@ -1,11 +1,10 @@
 -- What the functions that draw come to, from what the sponge's own calls ensure.
-use Rattle.std.proofs.Common.{◌≡◌, ℕ, zero, suc, ◌+◌, ◌-◌, ◌*◌, ◌%◌, ◌^◌, ◌<◌, ◌≤◌, true, eqb, List, [], ◌∷◌, ◌++◌, length, take, set, Ok, sym, refl, ap, ◌∙◌, subst, append_assoc, append-nil, mod-eq_of_lt, arith, take_all, pow_mono}
+use Rattle.std.proofs.Common.{◌≡◌, ℕ, zero, suc, ◌+◌, ◌-◌, ◌%◌, ◌^◌, ◌<◌, ◌≤◌, true, eqb, List, [], ◌∷◌, ◌++◌, length, take, set, Ok, sym, refl, ap, ◌∙◌, subst, append_assoc, append-nil, mod-eq_of_lt, arith, take_all, pow_mono}
 use mathlib.Core.Path.{fun_ext}
-use lib.Seq.{take-append_seam}
 use Rattle.std.proofs.lemmas.List.{take_more_set}
 use Rattle.sponge.specs.Play.{Rules, Play, done, observe, ◌>>=◌, each, counted}
 use Rattle.sponge.specs.Plays.{Plays, Leads}
-use Rattle.field.specs.Bytes.{word_bytes, coefficients_bytes, element_bytes}
+use Rattle.field.specs.Bytes.{word_bytes, element_bytes}
 use Rattle.field.specs.Extension.{Extension, Extends}
 use Rattle.field.specs.Numbers.{Numbering}
 use Rattle.ring.specs.Ring.{Ops}
@@ -19,17 +18,6 @@ few_bits w b h l = sym (mod-eq_of_lt (omega (arith, pow_mono l)))
 -- one element more of a list that is filled from the front
 grown : {A : Type 0} (l : List A) (i : ℕ) (x : A) (r : List A) → i < length l → take (i + 1) (set l i x) ++ r ≡ take i l ++ (x ∷ r)
 grown l i x r h = ap (λ t. t ++ r) (take_more_set l i x h) ∙ append_assoc (take i l) (x ∷ []) r
-
-length_bytes : {F : Type 0} (N : Numbering F) (cs : List F) → length (coefficients_bytes N cs) ≡ 4 * length cs
-length_bytes N [] = refl
-length_bytes N (c ∷ cs) = let h = length_bytes N cs in omega arith
-
--- a buffer that an element's bytes were written to begins with them
-pub bytes_in_front : {F E : Type 0} {f : Ops F} {e : Ops E} (N : Numbering F) (X : Extension F E) → Extends f e X → (x : E) (count : ℕ) (out rest : List ℕ)
-    → count ≡ 4 * X.degree → out ≡ element_bytes N X x ++ rest → take (count - 0) out ≡ element_bytes N X x
-bytes_in_front N X L x count out rest n written =
-    let long : count - 0 ≡ length (element_bytes N X x) = omega (arith, length_bytes N (X.coefficients x), L.count x) in
-    ap (take (count - 0)) written ∙ ap (λ k. take k (element_bytes N X x ++ rest)) long ∙ take-append_seam (element_bytes N X x) rest
 
 module _ {m : Rules} {s : List ℕ} where
   pub bits_drawn : {t : List ℕ} {w : ℕ} (b r : ℕ) → r ≡ w % 2 ^ b → w ≡ m.word s → t ≡ m.after_draw s → Plays m s (draw_bits b) (Ok r) t

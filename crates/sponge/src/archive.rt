@@ -4,9 +4,10 @@ ghost use Rattle.sponge.specs.Archive.{zeros, archive};
 ghost use Rattle.sponge.specs.Binding.{ArchiveBinds};
 
 use crate::Sponge;
-use blake2s::{hash_three, hash_two};
+use blake2s::hash_pieces;
 
-#[derive(Clone, Copy)]
+/// A sponge that holds 32 bytes.
+#[derive(Clone, Copy, Debug, PartialEq, Eq)]
 pub struct ArchiveSponge {
     h: [u8; 32],
 }
@@ -34,19 +35,20 @@ impl Sponge for ArchiveSponge {
     }
 
     fn observe(&mut self, bytes: &[u8]) {
-        self.h = hash_three(&[0], &self.h, bytes);
+        let h = self.h;
+        self.h = hash_pieces(&[&[0], &h, bytes]);
     }
 
     fn draw(&mut self) -> u32 {
-        self.h = hash_two(&[1], &self.h);
-        u32::from_le_bytes([self.h[0], self.h[1], self.h[2], self.h[3]])
+        let h = self.h;
+        self.h = hash_pieces(&[&[1], &h]);
+        let [a, b, c, d, ..] = self.h;
+        u32::from_le_bytes([a, b, c, d])
     }
 }
 
 /// As many calls on two new sponges lead to one state only if they are the same calls, or the hash
 /// collides on lists that they hashed.
-pub fn archive_binds_stands() -> u8
+pub fn archive_binds_stands()
     ensures { ArchiveBinds }
-{
-    0
-}
+{}

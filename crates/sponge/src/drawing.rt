@@ -5,7 +5,7 @@ ghost use Rattle.sponge.specs.Drawing.{draw_bits, check_witness, draw_base, draw
 ghost use Rattle.sponge.specs.Drawn.{Grinding, Elements};
 
 use crate::Sponge;
-use field::bytes::write_element;
+use field::bytes::element_bytes;
 use field::{BaseField, ExtensionField};
 
 /// So many bits: a word modulo that power of two. (From 32 bits on that is the word itself.)
@@ -41,6 +41,7 @@ pub fn draw_extension<F: BaseField, E: ExtensionField<F>, S: Sponge>(sponge: &mu
     ensures { Plays S.Sponge.rules (S.Sponge.held sponge.old) (draw_extension F.BaseField.numbering E.ExtensionField.extension) (Ok result) (S.Sponge.held sponge.new) }
 {
     let mut x = E::zero();
+    // Kept: in a chain the closure would change the sponge, and then its answers are not known; the elements go by index.
     for i in 0..E::degree() {
         x = x.with_coefficient(i, draw_base::<F, S>(sponge));
     }
@@ -58,22 +59,15 @@ pub fn observe_base<F: BaseField, S: Sponge>(sponge: &mut S, x: F)
 pub fn observe_extension<F: BaseField, E: ExtensionField<F>, S: Sponge>(sponge: &mut S, x: E)
     ensures { Plays S.Sponge.rules (S.Sponge.held sponge.old) (observe_extension F.BaseField.numbering E.ExtensionField.extension x) (Ok tt) (S.Sponge.held sponge.new) }
 {
-    let mut bytes = [0; 32];
-    let count = write_element::<F, E>(x, &mut bytes);
-    let all = &bytes[..];
-    sponge.observe(&all[0..count]);
+    sponge.observe(&element_bytes::<F, E>(x));
 }
 
 /// Grinding observes the witness, then draws a word, and says yes exactly where its lowest bits are 0.
-pub fn grinding_stands() -> u8
+pub fn grinding_stands()
     ensures { Grinding }
-{
-    0
-}
+{}
 
 /// An element's coefficients are the words drawn for it, modulo the modulus, in order.
-pub fn elements_stand<F: BaseField, E: ExtensionField<F>>() -> u8
+pub fn elements_stand<F: BaseField, E: ExtensionField<F>>()
     ensures { Elements F.BaseField.numbering E.ExtensionField.extension }
-{
-    0
-}
+{}

@@ -41,22 +41,16 @@ pub trait Call<R, A> {
 }
 
 /// Of every play: it answers exactly where its checks hold, and then with what is read.
-pub fn decided_by_checks_stands<R, A, C: Call<R, A>>() -> u8
+pub fn decided_by_checks_stands<R, A, C: Call<R, A>>()
     ensures { DecidedByChecks C.Call.play }
-{
-    0
-}
+{}
 
 /// Of every play: the words drawn settle what it answers, refuses and observes.
-pub fn settled_by_words_stands<R, A, C: Call<R, A>>() -> u8
+pub fn settled_by_words_stands<R, A, C: Call<R, A>>()
     ensures { Settled C.Call.play }
-{
-    0
-}
+{}
 
 /// Of every play: the list after it is that after the calls of its trail.
-pub fn left_by_trail_stands<R, A, C: Call<R, A>>() -> u8
+pub fn left_by_trail_stands<R, A, C: Call<R, A>>()
     ensures { LeftByTrail C.Call.play }
-{
-    0
-}
+{}

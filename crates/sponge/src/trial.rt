@@ -4,7 +4,8 @@ ghost use Rattle.sponge.specs.Trial.{stir, alone, trial};
 
 use crate::Sponge;
 
-#[derive(Clone, Copy)]
+/// A sponge that holds one number.
+#[derive(Clone, Copy, Debug, PartialEq, Eq)]
 pub struct TrialSponge {
     s: u64,
 }

@@ -28,20 +28,18 @@ fn replay_line(rt: &HostRuntime, line: &str, tally: &mut Tally) -> anyhow::Resul
     }
 }
 
+// Kept: each program of stored lines counts them by itself, since which lines count and what is printed differ.
 fn run(rt: &HostRuntime) -> anyhow::Result<()> {
     let mut tally = Tally::default();
-    let mut lines: u32 = 0;
-    let mut wrong: u32 = 0;
     for line in BufReader::new(rt.alloc(), rt.stdin())?.lines(rt.alloc()) {
-        lines = lines.saturating_add(1);
+        tally.lines = tally.lines.saturating_add(1);
         if !replay_line(rt, line?.as_str(), &mut tally)? {
-            wrong = wrong.saturating_add(1);
-            println!(rt; "line {lines} disagrees")?;
+            tally.wrong = tally.wrong.saturating_add(1);
+            let number = tally.lines;
+            println!(rt; "line {number} disagrees")?;
         }
     }
-    let observes = tally.observes;
-    let draws = tally.draws;
-    println!(rt; "{lines} lines, {observes} observes, {draws} draws; {wrong} lines disagree")?;
+    println!(rt; "{tally}")?;
     show_elements(rt)
 }
 
@@ -52,6 +50,7 @@ fn show_element<F: BaseField, E: ExtensionField<F>, S: Sponge + Drop>(
 ) -> anyhow::Result<()> {
     let mut sponge = S::make(seed);
     let x = draw_extension::<F, E, S>(&mut sponge);
+    // Kept: a list of the coefficients would be made only to go over it; an element tells them one by one.
     for j in 0..E::degree() {
         let c = x.coefficient(j).number();
         print!(rt; " {c}")?;

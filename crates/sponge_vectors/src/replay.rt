@@ -4,38 +4,50 @@ use sponge::Sponge;
 use sponge::archive::ArchiveSponge;
 use sponge::trial::TrialSponge;
 use std::alloc::Global;
+use std::fmt;
 
-/// How many calls have been made.
-#[derive(Clone, Copy, Default)]
+/// How many lines and calls have been replayed, and how many lines disagree.
+#[derive(Clone, Copy, Debug, Default, PartialEq, Eq)]
 pub struct Tally {
+    pub lines: u32,
     pub observes: u32,
     pub draws: u32,
+    pub wrong: u32,
+}
+
+impl fmt::Display for Tally {
+    fn fmt<W: fmt::Write>(&self, f: &mut fmt::Formatter<W>) -> fmt::Result {
+        let Tally {
+            lines,
+            observes,
+            draws,
+            wrong,
+        } = *self;
+        write!(
+            f,
+            "{lines} lines, {observes} observes, {draws} draws; {wrong} lines disagree"
+        )
+    }
 }
 
 /// A kind of sponge that stored lines speak of: its name, and its state as they write it.
 pub trait Stored: Sponge {
-    fn is_named(name: &str) -> bool;
+    const NAME: &'static str;
 
     fn is_at(&self, heap: Global, state: &str) -> anyhow::Result<bool>;
 }
 
 impl Stored for ArchiveSponge {
-    fn is_named(name: &str) -> bool {
-        name == "archive"
-    }
+    const NAME: &'static str = "archive";
 
     fn is_at(&self, heap: Global, state: &str) -> anyhow::Result<bool> {
-        match from_hex(heap, state)? {
-            Some(bytes) => Ok(bytes.as_slice() == &self.state()[..]),
-            None => Ok(false),
-        }
+        let bytes = from_hex(heap, state)?;
+        Ok(bytes.is_some_and(|bytes| bytes.as_slice() == &self.state()[..]))
     }
 }
 
 impl Stored for TrialSponge {
-    fn is_named(name: &str) -> bool {
-        name == "trial"
-    }
+    const NAME: &'static str = "trial";
 
     fn is_at(&self, heap: Global, state: &str) -> anyhow::Result<bool> {
         Ok(state.parse::<u64>()? == self.state())
@@ -43,7 +55,7 @@ impl Stored for TrialSponge {
 }
 
 // What the next word of a line has to be.
-#[derive(Clone, Copy)]
+#[derive(Clone, Copy, Debug, PartialEq, Eq)]
 enum Due {
     Call,
     Bytes,
@@ -51,55 +63,42 @@ enum Due {
     Kind,
     State,
     End,
-    Wrong,
 }
 
+// What is due after a word, or nothing where the word disagrees.
 fn step<S: Stored>(
     heap: Global,
     sponge: &mut S,
     due: Due,
     word: &str,
     tally: &mut Tally,
-) -> anyhow::Result<Due> {
-    let met = match due {
-        Due::Call => return Ok(call_named(word)),
-        Due::Bytes => match from_hex(heap, word)? {
-            Some(bytes) => {
-                tally.observes = tally.observes.saturating_add(1);
-                sponge.observe(bytes.as_slice());
-                true
-            }
-            None => false,
-        },
+) -> anyhow::Result<Option<Due>> {
+    Ok(match due {
+        Due::Call => call_named(word),
+        Due::Bytes => {
+            let Some(bytes) = from_hex(heap, word)? else {
+                return Ok(None);
+            };
+            tally.observes = tally.observes.saturating_add(1);
+            sponge.observe(&bytes);
+            Some(Due::Call)
+        }
         Due::Word => {
             tally.draws = tally.draws.saturating_add(1);
-            sponge.draw() == word.parse::<u32>()?
+            (sponge.draw() == word.parse::<u32>()?).then_some(Due::Call)
         }
-        Due::Kind => {
-            return Ok(if S::is_named(word) {
-                Due::State
-            } else {
-                Due::Wrong
-            });
-        }
-        Due::State => {
-            return Ok(if sponge.is_at(heap, word)? {
-                Due::End
-            } else {
-                Due::Wrong
-            });
-        }
-        Due::End | Due::Wrong => false,
-    };
-    Ok(if met { Due::Call } else { Due::Wrong })
+        Due::Kind => (word == S::NAME).then_some(Due::State),
+        Due::State => sponge.is_at(heap, word)?.then_some(Due::End),
+        Due::End => None,
+    })
 }
 
-fn call_named(word: &str) -> Due {
+fn call_named(word: &str) -> Option<Due> {
     match word {
-        "observe" => Due::Bytes,
-        "draw" => Due::Word,
-        "after" => Due::Kind,
-        _ => Due::Wrong,
+        "observe" => Some(Due::Bytes),
+        "draw" => Some(Due::Word),
+        "after" => Some(Due::Kind),
+        _ => None,
     }
 }
 
@@ -113,7 +112,10 @@ pub(crate) fn replay<S: Stored + Drop>(
     let mut sponge = S::make(seed);
     let mut due = Due::Call;
     for word in calls.split(' ') {
-        due = step(heap, &mut sponge, due, word, tally)?;
+        let Some(next) = step(heap, &mut sponge, due, word, tally)? else {
+            return Ok(false);
+        };
+        due = next;
     }
-    Ok(matches!(due, Due::End))
+    Ok(due == Due::End)
 }

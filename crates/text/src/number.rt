@@ -13,10 +13,8 @@ pub fn number(word: &[u8]) -> Option<u64>
     }
     let mut value: u64 = 0;
     for byte in word {
-        if *byte < 48 || *byte > 57 {
-            return None;
-        }
-        value = value.saturating_mul(10).saturating_add((*byte - 48) as u64);
+        let digit = char::from(*byte).to_digit(10)?;
+        value = value.saturating_mul(10).saturating_add(u64::from(digit));
     }
     Some(value)
 }

@@ -9,7 +9,7 @@ use Rattle.sponge.specs.Play.{Rules, Play, each, counted, read}
 use Rattle.sponge.specs.Drawing.{draw_bits}
 use Rattle.transcript.specs.Depths.{depths, Falling}
 use Rattle.transcript.specs.Positions.{index_drawn, indices_drawn, strata_drawn, some_drawn, positions_at, PositionsPlaced}
-use Rattle.transcript.proofs.Summing.{depths_sum}
+use Rattle.transcript.proofs.Summing.{depths_sum, looser}
 use Rattle.transcript.proofs.Describing.{counted_length}
 
 all_append : (P : ℕ → Type 0) (xs ys : List ℕ) → AllByRecursion P xs → AllByRecursion P ys → AllByRecursion P (xs ++ ys)
@@ -40,10 +40,6 @@ part_below m u w t j h l =
     let e : w - t + t ≡ w = omega arith in
     let whole : 2 ^ (w - t) * 2 ^ t ≡ 2 ^ w = sym (pow-add 2 (w - t) t) ∙ ap (λ k. 2 ^ k) e in
     subst (λ x. j * 2 ^ (w - t) + m.word u % 2 ^ (w - t) < x) whole (mul-add-lt j (2 ^ (w - t)) (m.word u % 2 ^ (w - t)) (2 ^ t) l (mod_below (m.word u) (2 ^ (w - t)) (pow_pos (w - t))))
-
-looser : (a b : ℕ) (ts : List ℕ) → a ≤ b → Falling a ts → Falling b ts
-looser a b [] h f = tt
-looser a b (t ∷ ts) h f = (omega (arith, f.0), f.1)
 
 strata_count : (m : Rules) (s : List ℕ) (w : ℕ) (ts : List ℕ) → length (read m s (strata_drawn w ts)).value ≡ sum_by (λ t. 2 ^ t) ts
 unfolding strata_drawn

@@ -1,8 +1,8 @@
 -- The depths of a number: one bit after another.
-use Rattle.std.proofs.Common.{◌≡◌, ℕ, zero, suc, ◌+◌, ◌-◌, ◌*◌, ◌%◌, ◌^◌, ◌<◌, ◌≤◌, leb, ◌⊎◌, List, [], ◌∷◌, ◌++◌, length, sum_by, sym, refl, ap, ◌∙◌, subst, inl, inr, ⊎_elim, append_assoc, append-nil, zero-lt-suc, pow-suc, arith, pow_pos}
+use Rattle.std.proofs.Common.{◌≡◌, ℕ, zero, suc, ◌+◌, ◌-◌, ◌*◌, ◌%◌, ◌^◌, ◌<◌, ◌≤◌, leb, ◌⊎◌, List, [], ◌∷◌, ◌++◌, length, sum_by, sym, refl, ap, ◌∙◌, subst, inl, inr, ⊎_elim, append_assoc, append-nil, zero-lt-suc, pow-suc, arith}
 use Rattle.std.proofs.lemmas.Nat.{one_shl}
 use native.Mathlib.Decide.{le_ind}
-use lib.Count.{ones, ones_cat, count_leading_zeros, leading_top}
+use lib.Count.{ones, ones_cat}
 use Rattle.std.proofs.lemmas.List.Sums.{sum_by-cons}
 use Rattle.std.proofs.lemmas.Bool.{cases_Bool, leb-true, leb-false, le-leb, lt-leb, cond-true, cond-false}
 use Rattle.transcript.specs.Depths.{set_bits, depths, Falling, DepthsSum}
@@ -54,7 +54,7 @@ whole (suc k) d h =
     (λ e. ap (λ ts. sum_by (λ t. 2 ^ t) ts) (absent k d (leb-false (2 ^ k) d e)) ∙ whole k d (leb-false (2 ^ k) d e))
     (cases_Bool (leb (2 ^ k) d))
 
-looser : (a b : ℕ) (ts : List ℕ) → a ≤ b → Falling a ts → Falling b ts
+pub looser : (a b : ℕ) (ts : List ℕ) → a ≤ b → Falling a ts → Falling b ts
 looser a b [] h f = tt
 looser a b (t ∷ ts) h f = (omega (arith, f.0), f.1)
 
@@ -88,23 +88,44 @@ depths_sum d = record {
   count = ap length (from_width d d (below_power d)) ∙ many d d (below_power d);
 }
 
--- the place of the highest bit, as the leading zeros tell it
-pub highest : (a r : ℕ) → 0 < a → a < 2 ^ 64 → r ≡ 63 - count_leading_zeros 64 a → (2 ^ r ≤ a) × (r < 64) × (depths a ≡ r ∷ depths (a - 2 ^ r))
-highest a r some fits e =
-    let t = leading_top 64 a some fits in
-    let place : t.0 ≡ r = omega (arith, t.1) in
-    subst (λ j. (2 ^ j ≤ a) × (j < 64) × (depths a ≡ j ∷ depths (a - 2 ^ j))) place (t.2, omega (arith, t.1), peeled t.0 a t.2 t.3)
+-- the highest bit comes first, and the others are those of what is left
+pub first_depth : (d r : ℕ) → 2 ^ r ≤ d → d < 2 * 2 ^ r → r < 64 → depths d ≡ r ∷ depths (d - 1 * 2 ^ r % 18446744073709551616)
+first_depth d r low high fits =
+    let e : depths d ≡ r ∷ depths (d - 2 ^ r) = peeled r d low (omega (arith, double r)) in
+    e ∙ ap (λ x. r ∷ depths (d - x)) (sym (one_shl r 64 fits))
 
--- one depth more in a list of them
-pub one_peeled : (ts us whole : List ℕ) (a r : ℕ) → r < 64 → depths a ≡ r ∷ depths (a - 2 ^ r) → us ≡ ts ++ (r ∷ []) → ts ++ depths a ≡ whole
-    → us ++ depths (a - 1 * 2 ^ r % 18446744073709551616) ≡ whole
-one_peeled ts us whole a r h e p q =
-    ap (λ x. us ++ depths (a - x)) (one_shl r 64 h) ∙ ap (λ x. x ++ depths (a - 2 ^ r)) p ∙ append_assoc ts (r ∷ []) (depths (a - 2 ^ r))
-    ∙ ap (λ x. ts ++ x) (sym e) ∙ q
+pub no_depth : (d : ℕ) → d ≡ 0 → depths d ≡ []
+no_depth d e = ap depths e ∙ none_left
 
--- less is left after it
-pub power_some : (a r : ℕ) → r < 64 → 2 ^ r ≤ a → a - 1 * 2 ^ r % 18446744073709551616 < a
-power_some a r h l = rw (one_shl r 64 h) (omega (arith, pow_pos r))
+pub fewer_left : (d r : ℕ) → 2 ^ r ≤ d → d < 2 * 2 ^ r → r < 64 → length (depths (d - 1 * 2 ^ r % 18446744073709551616)) < length (depths d)
+fewer_left d r low high fits = omega (arith, ap length (first_depth d r low high fits))
 
-pub all_peeled : (ts whole : List ℕ) (a : ℕ) → a ≡ 0 → ts ++ depths a ≡ whole → ts ≡ whole
-all_peeled ts whole a e q = sym (append-nil ts) ∙ ap (λ x. ts ++ x) (sym (ap depths e ∙ none_left)) ∙ q
+falling_at : (bound : ℕ) (ys : List ℕ) (r : ℕ) (ts : List ℕ) → Falling bound (ys ++ (r ∷ ts)) → r < bound
+falling_at bound [] r ts f = f.0
+falling_at bound (y ∷ ys) r ts f = omega (arith, f.0, falling_at y ys r ts f.1)
+
+-- some depths ys of a number d, and then those of e
+module _ (ys : List ℕ) (d e : ℕ) (so_far : ys ++ depths e ≡ depths d) where
+  pub depth_on : (f r : ℕ) → depths e ≡ r ∷ depths f → (ys ++ (r ∷ [])) ++ depths f ≡ depths d
+  depth_on f r h = append_assoc ys (r ∷ []) (depths f) ∙ ap (λ x. ys ++ x) (sym h) ∙ so_far
+
+  pub depth_small : (f r : ℕ) → d < 2 ^ 64 → depths e ≡ r ∷ depths f → r < 64
+  depth_small f r fits h = falling_at 64 ys r (depths f) (subst (Falling 64) (sym so_far ∙ ap (λ x. ys ++ x) h) ((depths_sum d).falling 64 fits))
+
+  pub depths_end : depths e ≡ [] → ys ≡ depths d
+  depths_end h = sym (append-nil ys) ∙ ap (λ x. ys ++ x) (sym h) ∙ so_far
+
+-- a depth takes its power of two from the number, and without depths there is nothing left
+pub depth_taken : (e f r : ℕ) → depths e ≡ r ∷ depths f → e ≡ 2 ^ r + f
+depth_taken e f r h = sym (depths_sum e).whole ∙ ap (λ ts. sum_by (λ t. 2 ^ t) ts) h ∙ sum_by-cons (λ t. 2 ^ t) r (depths f) ∙ ap (λ n. 2 ^ r + n) (depths_sum f).whole
+
+-- the highest depth of a number that fits in a word, and what it leaves
+module _ (d f r : ℕ) (fits : d < 2 ^ 64) (h : depths d ≡ r ∷ depths f) where
+  pub highest_small : r < 64
+  highest_small = depth_small [] d d refl f r fits h
+
+  pub highest_taken : d ≡ 1 * 2 ^ r % 18446744073709551616 + f
+  highest_taken = depth_taken d f r h ∙ ap (λ n. n + f) (sym (one_shl r 64 highest_small))
+
+pub none_taken : (e : ℕ) → depths e ≡ [] → e ≡ 0
+none_taken e h = sym (depths_sum e).whole ∙ ap (λ ts. sum_by (λ t. 2 ^ t) ts) h

@@ -1,10 +1,12 @@
 -- What a sponge holds after byte strings were observed one after another.
-use Rattle.std.proofs.Common.{◌≡◌, ℕ, zero, suc, ◌+◌, ◌≤◌, cond, eqb, List, [], ◌∷◌, ◌++◌, map, Ok, codes, sym, refl, ap, ◌∙◌, add-one, arith}
+use Rattle.std.proofs.Common.{◌≡◌, ℕ, zero, suc, ◌+◌, ◌<◌, cond, eqb, List, [], ◌∷◌, ◌++◌, map, length, get_or, take, Ok, codes, sym, refl, ap, ◌∙◌, add-one, arith}
 use Rattle.std.specs.List.{flat_map}
-use Rattle.std.proofs.lemmas.List.{map-append, append-nil}
+use Rattle.std.proofs.lemmas.List.{map-append, map_more, append-nil}
+use Rattle.std.proofs.lemmas.Grind.{flat_map-append}
 use Rattle.std.proofs.lemmas.Bool.{cond-true, cond-false, eq-eqb, ne_eqb}
 use Rattle.sponge.specs.Play.{Rules, counted}
 use Rattle.sponge.specs.Plays.{Plays}
+use Rattle.transcript.specs.Bytes.{eight}
 use Rattle.transcript.specs.Steps.{Step, step_bytes, drawn_step, sent_step}
 use Rattle.transcript.specs.Pattern.{sample_steps}
 use Rattle.transcript.specs.Instances.{instance_bytes}
@@ -15,10 +17,6 @@ module _ {X : Type 0} (m : Rules) (f : X → List ℕ) where
   pub taken_one : (s t : List ℕ) (x : X) (bs : List ℕ) → t ≡ m.after_observe s bs → bs ≡ f x → t ≡ taken m f s (x ∷ [])
   unfolding taken
   taken_one s t x bs e h = e ∙ ap (m.after_observe s) h
-
-  pub taken_none : (s : List ℕ) → s ≡ taken m f s []
-  unfolding taken
-  taken_none s = refl
 
   pub taken_append : (s : List ℕ) (xs ys : List X) → taken m f s (xs ++ ys) ≡ taken m f (taken m f s xs) ys
   unfolding taken
@@ -36,11 +34,6 @@ module _ {X : Type 0} (m : Rules) (f : X → List ℕ) where
   pub taken_same : (s t : List ℕ) (x y : X) → t ≡ taken m f s (x ∷ []) → x ≡ y → t ≡ taken m f s (y ∷ [])
   taken_same s t x y e h = e ∙ ap (λ z. taken m f s (z ∷ [])) h
 
-  -- one, and what is left after it
-  pub taken_next : (s t : List ℕ) (x y : X) (rest : List X) → t ≡ taken m f s (x ∷ []) → x ≡ y → taken m f t rest ≡ taken m f s (y ∷ rest)
-  unfolding taken
-  taken_next s t x y rest e h = ap (λ v. taken m f v rest) e ∙ ap (λ z. taken m f (m.after_observe s (f z)) rest) h
-
   -- only where there is something
   pub taken_nothing : (s : List ℕ) (n : ℕ) (xs : List X) → n ≡ 0 → s ≡ taken m f s (cond (eqb n 0) [] xs)
   unfolding taken
@@ -48,6 +41,14 @@ module _ {X : Type 0} (m : Rules) (f : X → List ℕ) where
 
   pub taken_something : (s t : List ℕ) (n : ℕ) (xs : List X) → (n ≡ 0 → ⊥) → t ≡ taken m f s xs → t ≡ taken m f s (cond (eqb n 0) [] xs)
   taken_something s t n xs e h = h ∙ sym (ap (taken m f s) (cond-false (eqb n 0) [] xs (ne_eqb n 0 e)))
+
+-- one number more
+pub number_more : (m : Rules) (s t u : List ℕ) (ns : List ℕ) (i : ℕ) (bs ws : List ℕ) → i < length ns → t ≡ taken m instance_bytes s (map eight (take i ns))
+    → u ≡ m.after_observe t ws → ws ≡ instance_bytes bs → bs ≡ eight (get_or ns i 0) → u ≡ taken m instance_bytes s (map eight (take (i + 1) ns))
+number_more m s t u ns i bs ws h inv o w b =
+    taken_as m instance_bytes s u (map eight (take i ns) ++ (eight (get_or ns i 0) ∷ [])) (map eight (take (i + 1) ns))
+    (taken_on m instance_bytes s t u (map eight (take i ns)) (eight (get_or ns i 0) ∷ []) inv
+    (taken_one m instance_bytes t u (eight (get_or ns i 0)) ws o (w ∙ ap instance_bytes b))) (sym (map_more eight ns i 0 h))
 
 -- numbers counted, one more at the end
 pub counted_more : (k n : ℕ) → counted k (suc n) ≡ counted k n ++ ((k + n) ∷ [])
@@ -61,27 +62,16 @@ counted_push n =
     let e : 0 + n ≡ n = omega arith in
     ap (counted 0) (add-one n) ∙ counted_more 0 n ∙ ap (λ x. counted 0 n ++ (x ∷ [])) e
 
-joined_append : {X Y : Type 0} (f : X → List Y) (xs ys : List X) → flat_map f (xs ++ ys) ≡ flat_map f xs ++ flat_map f ys
-joined_append f [] ys = refl
-joined_append f (x ∷ xs) ys = ap (λ r. f x ++ r) (joined_append f xs ys) ∙ sym (assoc (f x) (flat_map f xs) (flat_map f ys))
-  where
-    assoc : {Z : Type 0} (a b c : List Z) → (a ++ b) ++ c ≡ a ++ (b ++ c)
-    assoc [] b c = refl
-    assoc (z ∷ a) b c = ap (λ r. z ∷ r) (assoc a b c)
-
 -- one more of what was joined over the numbers so far
 pub joined_push : {X Y : Type 0} (f : X → List Y) (g : ℕ → X) (n : ℕ) → flat_map f (map g (counted 0 n)) ++ f (g n) ≡ flat_map f (map g (counted 0 (n + 1)))
 joined_push f g n =
     ap (λ r. flat_map f (map g (counted 0 n)) ++ r) (sym (append-nil (f (g n))))
-    ∙ sym (ap (λ xs. flat_map f (map g xs)) (counted_push n) ∙ ap (flat_map f) (map-append g (counted 0 n) (n ∷ [])) ∙ joined_append f (map g (counted 0 n)) (g n ∷ []))
+    ∙ sym (ap (λ xs. flat_map f (map g xs)) (counted_push n) ∙ ap (flat_map f) (map-append g (counted 0 n) (n ∷ [])) ∙ flat_map-append f (map g (counted 0 n)) (g n ∷ []))
 
 -- one sample more
-samples_more : (degree n : ℕ) → sample_steps degree (suc n) ≡ sample_steps degree n ++ (drawn_step degree OodPoint ∷ sent_step degree 0 OodAnswer ∷ [])
+pub samples_more : (degree n : ℕ) → sample_steps degree (suc n) ≡ sample_steps degree n ++ (drawn_step degree OodPoint ∷ sent_step degree 0 OodAnswer ∷ [])
 samples_more degree zero = refl
 samples_more degree (suc n) = ap (λ ss. drawn_step degree OodPoint ∷ sent_step degree 0 OodAnswer ∷ ss) (samples_more degree n)
-
-pub samples_push : (degree n : ℕ) → sample_steps degree n ++ (drawn_step degree OodPoint ∷ sent_step degree 0 OodAnswer ∷ []) ≡ sample_steps degree (n + 1)
-samples_push degree n = sym (ap (sample_steps degree) (add-one n) ∙ samples_more degree n)
 
 -- the whole separator
 all_observed : (m : Rules) (s : List ℕ) (ps : List (List ℕ)) → Plays m s (observe_all ps) (Ok tt) (taken m (λ b. b) s ps)
@@ -105,6 +95,3 @@ opened m s a b c d steps labels e1 e2 e3 e4 =
     (ap (λ v. taken m (λ x. x) v (map step_bytes steps)) (sym (e2 ∙ ap (λ v. m.after_observe v (codes "p3-whir")) e1)) ∙ taken_map m step_bytes b steps ∙ sym e3)
     ∙ taken_map m instance_bytes c labels ∙ sym e4 in
     record { comes = whole.comes ∙ ap (λ v. record { answer = Ok tt; list = v }) last }
-
-pub samples_all : (m : Rules) (s t : List ℕ) (degree i n : ℕ) → n ≤ i → i ≤ n → t ≡ taken m step_bytes s (sample_steps degree i) → t ≡ taken m step_bytes s (sample_steps degree n)
-samples_all m s t degree i n low high e = let same : i ≡ n = omega arith in e ∙ ap (λ k. taken m step_bytes s (sample_steps degree k)) same

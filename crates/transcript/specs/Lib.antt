@@ -8,5 +8,4 @@ pub mod Opening
 pub mod Cutting
 pub mod Positions
 pub mod Playing
-pub mod Written
 pub mod Sites

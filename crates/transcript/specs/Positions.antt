@@ -1,5 +1,5 @@
 -- The positions that a phase opens, as a play.
-use Rattle.std.specs.Prelude.{◌≡◌, ℕ, zero, suc, ◌+◌, ◌-◌, ◌*◌, ◌^◌, ◌<◌, ◌≤◌, Bool, true, false, cond, List, [], ◌∷◌, ◌++◌, length, take, drop, Ok, ◌==◌}
+use Rattle.std.specs.Prelude.{◌≡◌, ℕ, zero, suc, ◌+◌, ◌-◌, ◌*◌, ◌^◌, ◌<◌, ◌≤◌, Bool, true, false, cond, List, [], ◌∷◌, ◌++◌, length, take, drop, Ok, Err, Result, ◌==◌}
 use Rattle.std.specs.List.{AllByRecursion}
 use Rattle.sponge.specs.Play.{Rules, Play, done, ◌>>=◌, each, counted, read}
 use Rattle.sponge.specs.Plays.{Plays}
@@ -7,6 +7,7 @@ use Rattle.sponge.specs.Drawing.{draw_bits}
 use Rattle.configuration.specs.Numbers.{Numbers}
 use Rattle.configuration.specs.Phases.{log_positions_of, draws, rows}
 use Rattle.transcript.specs.Depths.{depths}
+use Rattle.transcript.specs.declared.failure.NoRoom.{NoRoom}
 
 -- The j-th index: so many bits are drawn, and j strides are added.
 unfoldable pub index_drawn : ℕ → ℕ → ℕ → Play ⊥ ℕ
@@ -61,6 +62,6 @@ pub record Fills (m : Rules) (s : List ℕ) (p : Play ⊥ (List ℕ)) (t : List 
   pub filled : after ≡ take from before ++ (drawn ++ drop (from + n) before)
 
 -- The positions of a phase are drawn into a buffer from a place on, if it has room for them; else nothing happens.
-abbrev pub Indices : Rules → Numbers → ℕ → Bool → List ℕ → List ℕ → ℕ → List ℕ → List ℕ → Type 0
-Indices m N i true s t from before after = (from + rows N N.stored i ≤ length before) × Fills m s (positions N i) t from (rows N N.stored i) before after
-Indices m N i false s t from before after = (length before < from + rows N N.stored i) × (t ≡ s) × (after ≡ before)
+abbrev pub Indices : Rules → Numbers → ℕ → Result (Unit {0}) NoRoom → List ℕ → List ℕ → ℕ → List ℕ → List ℕ → Type 0
+Indices m N i (Ok _) s t from before after = (from + rows N N.stored i ≤ length before) × Fills m s (positions N i) t from (rows N N.stored i) before after
+Indices m N i (Err _) s t from before after = (length before < from + rows N N.stored i) × (t ≡ s) × (after ≡ before)

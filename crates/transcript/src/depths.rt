@@ -1,35 +1,40 @@
 // The draws of a query phase as a sum of powers of two.
-ghost use Rattle.std.specs.Prelude.{◌≡◌, ◌-◌, ◌^◌, ◌<◌, ◌≤◌, ◌∷◌, IfOk};
+ghost use Rattle.std.specs.Prelude.{◌≡◌, IfOk};
+ghost use Rattle.std.specs.Iterator.{YieldsFirst, item_count};
 ghost use Rattle.transcript.specs.Depths.{depths, DepthsSum};
 
 use std::alloc::{AllocError, Global};
 
-// The highest set bit, which gives the deepest stratum partition that is left.
-pub(crate) fn highest_depth(remaining: usize) -> usize
-    requires { 0 < remaining }
-    ensures power { (2 ^ result ≤ remaining) × (result < 64) }
-    ensures rest { depths remaining ≡ result ∷ depths (remaining - 2 ^ result) }
-{
-    63 - remaining.leading_zeros() as usize
+// The set bits of a number, highest first.
+#[derive(Clone, Copy, PartialEq, Eq, Debug)]
+pub(crate) struct Depths(pub(crate) usize);
+
+impl Iterator for Depths {
+    type Item = usize;
+
+    ghost next_gives = { YieldsFirst (λ s. depths s.0) };
+
+    ghost remaining = { item_count (λ s. depths s.0) };
+
+    #[tactic(auto, using(crate::proofs::Summing::no_depth, crate::proofs::Summing::first_depth, crate::proofs::Summing::fewer_left))]
+    fn next(&mut self) -> Option<usize> {
+        if self.0 == 0 {
+            return None;
+        }
+        let depth = self.0.ilog2() as usize;
+        self.0 -= 1 << depth;
+        Some(depth)
+    }
 }
 
 // Canonical power-of-two decomposition of a query count, deepest strata first.
 pub fn query_summand_depths(heap: Global, draws: usize) -> Result<Vec<usize>, AllocError>
     ensures { IfOk result (λ ts. ts.items ≡ depths draws) }
 {
-    let mut remaining = draws;
-    let mut summands = Vec::with_capacity(heap, draws.count_ones() as usize)?;
-    while remaining != 0 {
-        let depth = highest_depth(remaining);
-        summands.push(depth)?;
-        remaining -= 1 << depth;
-    }
-    Ok(summands)
+    Depths(draws).collect(heap)
 }
 
 // The powers of the depths sum to the draws, the depths fall, and there are as many as bits are set.
-pub fn depths_sum() -> u8
+pub fn depths_sum()
     ensures { DepthsSum }
-{
-    0
-}
+{}

@@ -1,7 +1,6 @@
 // The steps of a run as they are described, and the bytes of each.
 ghost use Rattle.std.specs.Prelude.{◌≡◌};
-ghost use Rattle.transcript.specs.Steps.{hierarchy_byte, kind_byte, value_byte, label_bytes, step_bytes, step_of, marker, commitment_step, drawn_step, sent_step, grinding_step, indices_step};
-ghost use Rattle.transcript.specs.Written.{written};
+ghost use Rattle.transcript.specs.Steps.{label_bytes, step_bytes, step_of, marker, commitment_step, drawn_step, sent_step, grinding_step, indices_step};
 
 use crate::piece::Piece;
 
@@ -51,6 +50,8 @@ pub enum Label {
 
 // One step. The width is the degree of an extension element or the bits of an index, else 0; the length is 0 for a single value
 // and for a marker.
+//
+// Kept: both are the numbers that the step's bytes hold, 0 among them, so an `Option` would be turned into them again.
 #[derive(Clone, Copy, PartialEq, Eq, Debug)]
 pub struct Interaction {
     pub hierarchy: Hierarchy,
@@ -61,47 +62,9 @@ pub struct Interaction {
     pub label: Label,
 }
 
-impl Hierarchy {
-    fn byte(self) -> u8
-        ensures { result ≡ hierarchy_byte self }
-    {
-        match self {
-            Hierarchy::Begin => 0,
-            Hierarchy::End => 1,
-            Hierarchy::Atomic => 2,
-        }
-    }
-}
-
-impl Kind {
-    fn byte(self) -> u8
-        ensures { result ≡ kind_byte self }
-    {
-        match self {
-            Kind::Message => 0,
-            Kind::Challenge => 1,
-            Kind::Pow => 2,
-            Kind::Protocol => 3,
-        }
-    }
-}
-
-impl Value {
-    fn byte(self) -> u8
-        ensures { result ≡ value_byte self }
-    {
-        match self {
-            Value::Marker => 0,
-            Value::Opaque => 1,
-            Value::Base => 2,
-            Value::Extension => 3,
-            Value::Bits => 4,
-        }
-    }
-}
-
 impl Label {
     // The name's text.
+    #[tactic(auto, unfolding(crate::specs::Steps::label_bytes))]
     pub fn as_str(self) -> &'static str
         ensures { result.now ≡ label_bytes self }
     {
@@ -124,6 +87,8 @@ impl Label {
 
 impl Interaction {
     // The opener or closer of a sumcheck that is delegated.
+    //
+    // Kept: here and below a step is written with its six fields named, which is plainer than a call with as many arguments in a row.
     pub fn marker(hierarchy: Hierarchy, label: Label) -> Interaction
         ensures { step_of result ≡ marker hierarchy label }
     {
@@ -208,16 +173,24 @@ impl Interaction {
     }
 
     // The bytes that stand for the step in the separator.
+    #[tactic(auto, using(crate::proofs::Writing::eight_bytes, crate::proofs::Writing::label_short), unfolding(crate::specs::Steps::step_bytes))]
     pub fn encode(&self) -> Piece
-        ensures { written result ≡ step_bytes (step_of self.now) }
+        ensures { result.items ≡ step_bytes (step_of self.now) }
     {
-        let mut piece = Piece::new(0);
-        piece.push(self.hierarchy.byte());
-        piece.push(self.kind.byte());
-        piece.push(self.value.byte());
-        piece.append(&self.width.to_be_bytes());
-        piece.append(&self.length.to_be_bytes());
-        piece.append(self.label.as_str().as_bytes());
+        let mut piece = Piece::new();
+        piece.push(0);
+        piece.push(self.hierarchy as u8);
+        piece.push(self.kind as u8);
+        piece.push(self.value as u8);
+        piece
+            .try_extend_from_slice(&self.width.to_be_bytes())
+            .unwrap();
+        piece
+            .try_extend_from_slice(&self.length.to_be_bytes())
+            .unwrap();
+        piece
+            .try_extend_from_slice(self.label.as_str().as_bytes())
+            .unwrap();
         piece
     }
 }

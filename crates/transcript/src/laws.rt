@@ -3,15 +3,13 @@ ghost use Rattle.transcript.specs.Pattern.{Balanced};
 ghost use Rattle.transcript.specs.Cutting.{OneCut};
 
 // Every bracket of a pattern is closed, in proper nesting.
-pub fn pattern_balanced() -> u8
+#[tactic(auto, using(crate::proofs::Cuts::balanced))]
+pub fn pattern_balanced()
     ensures { Balanced }
-{
-    0
-}
+{}
 
 // Equal lists of pieces come of equal steps and equal instances.
-pub fn separator_cut_in_one_way() -> u8
+#[tactic(auto, using(crate::proofs::Cuts::one_cut))]
+pub fn separator_cut_in_one_way()
     ensures { OneCut }
-{
-    0
-}
+{}

@@ -1,134 +1,95 @@
 // The positions that a phase opens, into a lent slice.
-ghost use Rattle.std.specs.Prelude.{◌≡◌, ◌+◌, ◌^◌, ◌<◌, ◌≤◌, true, ◌++◌, length, take, drop, nat_le};
+ghost use Rattle.std.specs.Prelude.{◌≡◌, ◌≤◌, length, Ok};
 ghost use Rattle.sponge.specs.Play.{counted};
+ghost use Rattle.sponge.specs.Plays.{Plays};
 ghost use Rattle.configuration.specs.Numbers.{numbers_of};
 ghost use Rattle.transcript.specs.Depths.{depths};
 ghost use Rattle.transcript.specs.Sites.{phase_of};
-ghost use Rattle.transcript.specs.Positions.{indices_drawn, strata_drawn, positions_at, opened_at, Fills, Indices, PositionsPlaced};
+ghost use Rattle.transcript.specs.Positions.{indices_drawn, strata_drawn, positions_at, opened_at, Indices, PositionsPlaced};
 
-use crate::depths::highest_depth;
-use crate::run::Run;
-use crate::sites::query_site;
+use crate::depths::Depths;
+use crate::failure::NoRoom;
+use crate::sites::{QuerySite, query_site};
+use configuration::checks::rows_opened;
 use configuration::whir::WhirConfig;
 use sponge::Sponge;
 use sponge::drawing::draw_bits;
 
 // Every position, in order.
-fn fill_all(out: &mut [usize], from: usize, count: usize)
-    requires { from + count ≤ length out.old }
-    ensures { out.new ≡ take from out.old ++ (counted 0 count ++ drop (from + count) out.old) }
+#[tactic(auto, using(crate::proofs::Filling::number_on))]
+fn fill_all(out: &mut [usize])
+    ensures { out.new ≡ counted 0 (length out.old) }
 {
-    for i in 0..count {
-        out[from + i] = i;
+    for (i, place) in out.iter_mut().enumerate() {
+        *place = i;
     }
 }
 
-// So many indices of so many bits, the j-th moved on by j strides.
-fn draw_indices<S: Sponge>(
-    sponge: &mut S,
-    out: &mut [usize],
-    from: usize,
-    bits: usize,
-    stride: usize,
-    count: usize,
-)
-    requires { (from + count ≤ length out.old) × ((bits ≤ 16) × ((stride ≤ 65536) × (count ≤ 65536))) }
-    ensures { Fills S.Sponge.rules (S.Sponge.held sponge.old) (indices_drawn bits stride count) (S.Sponge.held sponge.new) from count out.old out.new }
+// An index of so many bits for each place, the j-th moved on by j strides.
+fn draw_indices<S: Sponge>(sponge: &mut S, out: &mut [usize], bits: usize, stride: usize)
+    requires few { length out.old ≤ 65536 }
+    requires narrow { bits ≤ 16 }
+    requires near { stride ≤ 65536 }
+    ensures { Plays S.Sponge.rules (S.Sponge.held sponge.old) (indices_drawn bits stride (length out.old)) (Ok out.new) (S.Sponge.held sponge.new) }
 {
-    for i in 0..count {
+    for (j, place) in out.iter_mut().enumerate() {
         let low = draw_bits(sponge, bits as u32);
-        out[from + i] = i * stride + low as usize;
+        *place = j * stride + low as usize;
     }
 }
 
-// One index in each part, for each summand of the draws, the depths peeled one by one.
-fn draw_strata<S: Sponge>(
-    sponge: &mut S,
-    out: &mut [usize],
-    from: usize,
-    width: usize,
-    draws: usize,
-)
-    requires { (from + draws ≤ length out.old) × ((width ≤ 16) × (draws ≤ 1024)) }
-    ensures { Fills S.Sponge.rules (S.Sponge.held sponge.old) (strata_drawn width (depths draws)) (S.Sponge.held sponge.new) from draws out.old out.new }
+// One index in each part, for each summand of the draws, of which there are as many as places: the highest first, then those of the rest.
+#[tactic(auto, using(crate::proofs::Summing::highest_small, crate::proofs::Summing::highest_taken, crate::proofs::Filling::strata_none))]
+fn draw_strata<S: Sponge>(sponge: &mut S, out: &mut [usize], width: usize)
+    requires few { length out.old ≤ 1024 }
+    requires narrow { width ≤ 16 }
+    ensures { Plays S.Sponge.rules (S.Sponge.held sponge.old) (strata_drawn width (depths (length out.old))) (Ok out.new) (S.Sponge.held sponge.new) }
 {
-    let mut remaining = draws;
-    let mut at = from;
-    while remaining != 0 {
-        let depth = highest_depth(remaining);
-        let count = 1 << depth;
+    if let Some(depth) = Depths(out.len()).next() {
         let bits = width.saturating_sub(depth);
-        let stride = 1 << bits;
-        draw_indices(sponge, out, at, bits, stride, count);
-        at += count;
-        remaining -= count;
+        let (part, rest) = out.split_at_mut(1 << depth);
+        draw_indices(sponge, part, bits, 1 << bits);
+        draw_strata(sponge, rest, width);
     }
 }
 
-// The positions of a phase, from a place of the slice on.
-fn draw_positions<S: Sponge>(
+// The positions of a phase, one for each place.
+fn draw_positions<S: Sponge>(sponge: &mut S, out: &mut [usize], site: QuerySite, stratified: bool)
+    requires count { length out.old ≡ opened_at site.index_bits site.draws }
+    requires few { site.draws ≤ 1024 }
+    requires narrow { site.index_bits ≤ 16 }
+    ensures { Plays S.Sponge.rules (S.Sponge.held sponge.old) (positions_at stratified site.index_bits site.draws) (Ok out.new) (S.Sponge.held sponge.new) }
+{
+    if site.draws == 0 {
+        fill_all(out);
+    } else if stratified {
+        draw_strata(sponge, out, site.index_bits);
+    } else {
+        draw_indices(sponge, out, site.index_bits, 0);
+    }
+}
+
+// Draws the positions of a round's phase into a slice, from a place on; where they have no room, nothing is drawn or written.
+pub(crate) fn redraw<S: Sponge>(
     sponge: &mut S,
+    config: &WhirConfig,
+    round: usize,
     out: &mut [usize],
     from: usize,
-    stratified: bool,
-    width: usize,
-    draws: usize,
-)
-    requires { (from + opened_at width draws ≤ length out.old) × ((width ≤ 16) × (draws ≤ 1024)) }
-    ensures { Fills S.Sponge.rules (S.Sponge.held sponge.old) (positions_at stratified width draws) (S.Sponge.held sponge.new) from (opened_at width draws) out.old out.new }
+) -> Result<(), NoRoom>
+    ensures { Indices S.Sponge.rules (numbers_of config.now.numbers) (phase_of (numbers_of config.now.numbers) round) result (S.Sponge.held sponge.old) (S.Sponge.held sponge.new) from out.old out.new }
 {
-    if draws == 0 {
-        fill_all(out, from, 1 << width);
-    } else if stratified {
-        draw_strata(sponge, out, from, width, draws);
-    } else {
-        draw_indices(sponge, out, from, width, 0, draws);
+    let site = query_site(config, round);
+    let rows = rows_opened(1 << site.index_bits, site.draws);
+    if rows > out.len().saturating_sub(from) {
+        return Err(NoRoom);
     }
-}
-
-// Rows that are opened: those drawn, and every one where nothing is drawn.
-fn opened_rows(width: usize, draws: usize) -> usize
-    requires { width ≤ 16 }
-    ensures { result ≡ opened_at width draws }
-{
-    if draws == 0 { 1 << width } else { draws }
-}
-
-// Whether a slice has room for so many from a place on.
-fn has_room(len: usize, from: usize, count: usize) -> bool
-    ensures { result ≡ nat_le (from + count) len }
-{
-    from <= len && count <= len - from
-}
-
-impl Run {
-    // Redraws the query indices of a round into a slice, from a place on; false, and nothing is drawn or written, where they have no room.
-    //
-    // A round at or past the last one names the final site.
-    pub fn query_indices<S: Sponge>(
-        &self,
-        sponge: &mut S,
-        config: &WhirConfig,
-        round: usize,
-        out: &mut [usize],
-        from: usize,
-    ) -> bool
-        ensures { Indices S.Sponge.rules (numbers_of config.now.numbers) (phase_of (numbers_of config.now.numbers) round) result (S.Sponge.held sponge.old) (S.Sponge.held sponge.new) from out.old out.new }
-    {
-        let site = query_site(config, round);
-        let count = opened_rows(site.index_bits, site.draws);
-        if !has_room(out.len(), from, count) {
-            return false;
-        }
-        let stratified = config.numbers.stratified_queries;
-        draw_positions(sponge, out, from, stratified, site.index_bits, site.draws);
-        true
-    }
+    let stratified = config.numbers.stratified_queries;
+    draw_positions(sponge, &mut out[from..from + rows], site, stratified);
+    Ok(())
 }
 
 // As many positions as rows are opened, each within the phase's.
-pub fn positions_placed() -> u8
+pub fn positions_placed()
     ensures { PositionsPlaced }
-{
-    0
-}
+{}

@@ -7,10 +7,12 @@ ghost use Rattle.configuration.specs.Numbers.{numbers_of};
 ghost use Rattle.transcript.specs.Shape.{difficulty};
 ghost use Rattle.transcript.specs.Sites.{phase_of};
 ghost use Rattle.transcript.specs.Opening.{opening};
+ghost use Rattle.transcript.specs.Positions.{Indices};
 ghost use Rattle.transcript.specs.Playing.{query_grinding, values_observed, final_values, canonical, nothing};
 
-use crate::failure::TranscriptFailure;
+use crate::failure::{NoRoom, TranscriptFailure};
 use crate::opening::observe_separator;
+use crate::positions::redraw;
 use crate::sites::{final_poly_len, query_site};
 use configuration::whir::WhirConfig;
 use field::{BaseField, ExtensionField};
@@ -18,31 +20,33 @@ use sponge::Sponge;
 use sponge::drawing::{check_witness, draw_extension, observe_extension};
 
 // A run that has been opened and not yet closed. It is no `Drop`: it is closed by `finish` or by `abort`, and by nothing else.
-pub struct Run {
-    mark: (),
+pub struct Run<'a> {
+    config: &'a WhirConfig,
 }
 
-impl Run {
+impl<'a> Run<'a> {
     // Opens a run: the separator of the configuration is observed.
     pub fn open<F: BaseField, E: ExtensionField<F>, S: Sponge>(
         sponge: &mut S,
-        config: &WhirConfig,
+        config: &'a WhirConfig,
         num_opening_claims: usize,
-    ) -> Run
-        ensures { Plays S.Sponge.rules (S.Sponge.held sponge.old) (opening (numbers_of config.now.numbers) E.ExtensionField.extension.degree num_opening_claims) (Ok tt) (S.Sponge.held sponge.new) }
+    ) -> Run<'a>
+        ensures config { result.config.now ≡ config.now }
+        ensures plays { Plays S.Sponge.rules (S.Sponge.held sponge.old) (opening (numbers_of config.now.numbers) E.ExtensionField.extension.degree num_opening_claims) (Ok tt) (S.Sponge.held sponge.new) }
     {
         observe_separator(sponge, config, E::degree(), num_opening_claims);
-        Run { mark: () }
+        Run { config }
     }
 
+    // Kept: the two ends of a run, the two challenges and the two brackets are steps of the original's own, told apart by their names.
     // Closes a run whose every step was played.
     pub fn finish(self) {
-        let Run { mark: _ } = self;
+        let Run { config: _ } = self;
     }
 
     // Closes a run because the proof is being rejected.
     pub fn abort(self) {
-        let Run { mark: _ } = self;
+        let Run { config: _ } = self;
     }
 
     // Binds one round's commitment, by the bytes that its scheme gives.
@@ -88,24 +92,23 @@ impl Run {
     {}
 
     // The bracket of the sumcheck that closes the run: whether there is one.
-    pub fn delegate_final_fold<S: Sponge>(&self, sponge: &mut S, config: &WhirConfig) -> bool
-        ensures fold { result ≡ not (nat_eq config.now.numbers.final_sumcheck_rounds 0) }
+    pub fn delegate_final_fold<S: Sponge>(&self, sponge: &mut S) -> bool
+        ensures fold { result ≡ not (nat_eq self.now.config.now.numbers.final_sumcheck_rounds 0) }
         ensures plays { Plays {R = ⊥} S.Sponge.rules (S.Sponge.held sponge.old) (answering result) (Ok result) (S.Sponge.held sponge.new) }
     {
-        config.numbers.final_sumcheck_rounds != 0
+        self.config.numbers.final_sumcheck_rounds != 0
     }
 
     // Replays the grind of the query site of a round.
     pub fn query_pow<F: BaseField, S: Sponge>(
         &self,
         sponge: &mut S,
-        config: &WhirConfig,
         round: usize,
         witness: F,
     ) -> Result<(), TranscriptFailure>
-        ensures { Plays S.Sponge.rules (S.Sponge.held sponge.old) (query_grinding F.BaseField.numbering (numbers_of config.now.numbers) round witness) result (S.Sponge.held sponge.new) }
+        ensures { Plays S.Sponge.rules (S.Sponge.held sponge.old) (query_grinding F.BaseField.numbering (numbers_of self.now.config.now.numbers) round witness) result (S.Sponge.held sponge.new) }
     {
-        let bits = query_site(config, round).pow_bits;
+        let bits = query_site(self.config, round).pow_bits;
         if check_witness(sponge, bits as u32, witness.number()) {
             Ok(())
         } else {
@@ -113,16 +116,30 @@ impl Run {
         }
     }
 
+    // Redraws the query indices of a round into a slice, from a place on; where they have no room, nothing is drawn or written.
+    //
+    // A round at or past the last one names the final site.
+    pub fn query_indices<S: Sponge>(
+        &self,
+        sponge: &mut S,
+        round: usize,
+        out: &mut [usize],
+        from: usize,
+    ) -> Result<(), NoRoom>
+        ensures { Indices S.Sponge.rules (numbers_of self.now.config.now.numbers) (phase_of (numbers_of self.now.config.now.numbers) round) result (S.Sponge.held sponge.old) (S.Sponge.held sponge.new) from out.old out.new }
+    {
+        redraw(sponge, self.config, round, out, from)
+    }
+
     // Binds the final polynomial the proof carries, if it has as many values as were described.
     pub fn final_poly<F: BaseField, E: ExtensionField<F>, S: Sponge>(
         &self,
         sponge: &mut S,
-        config: &WhirConfig,
         evaluations: &[E],
     ) -> Result<(), TranscriptFailure>
-        ensures { Plays S.Sponge.rules (S.Sponge.held sponge.old) (final_values F.BaseField.numbering E.ExtensionField.extension (numbers_of config.now.numbers) evaluations.now) result (S.Sponge.held sponge.new) }
+        ensures { Plays S.Sponge.rules (S.Sponge.held sponge.old) (final_values F.BaseField.numbering E.ExtensionField.extension (numbers_of self.now.config.now.numbers) evaluations.now) result (S.Sponge.held sponge.new) }
     {
-        let expected = final_poly_len(config);
+        let expected = final_poly_len(self.config);
         let got = evaluations.len();
         if got != expected {
             return Err(TranscriptFailure::FinalPolyLength { expected, got });
@@ -142,6 +159,8 @@ fn observe_values<F: BaseField, E: ExtensionField<F>, S: Sponge>(sponge: &mut S,
 }
 
 // Refuses a query witness that is not 0 where no work is asked for.
+//
+// Kept: it takes the configuration, since a proof is asked this before a run of it is opened.
 pub fn check_canonical<F: BaseField>(
     config: &WhirConfig,
     round: usize,

@@ -1,5 +1,5 @@
 // Where a phase's queries are made: what a checked configuration says of them.
-ghost use Rattle.std.specs.Prelude.{◌≡◌, ◌^◌, ◌<◌, ◌≤◌, min, length};
+ghost use Rattle.std.specs.Prelude.{◌≡◌, ◌^◌, ◌≤◌, length};
 ghost use Rattle.configuration.specs.Numbers.{numbers_of};
 ghost use Rattle.configuration.specs.Phases.{factor, log_positions_of};
 ghost use Rattle.transcript.specs.Shape.{difficulty};
@@ -44,14 +44,14 @@ fn index_bits(config: &WhirConfig, phase: usize) -> usize
 fn difficulty_of(config: &WhirConfig, phase: usize) -> usize
     ensures { result ≡ difficulty (numbers_of config.now.numbers) phase }
 {
-    if phase < config.numbers.round_parameters.len() {
-        config.numbers.round_parameters[phase].pow_bits
-    } else {
-        config.numbers.terminal.pow_bits
+    match config.numbers.round_parameters.get(phase) {
+        Some(round) => round.pow_bits,
+        None => config.numbers.terminal.pow_bits,
     }
 }
 
 // Values of the final polynomial, sent in the clear.
+#[tactic(auto, using(crate::proofs::Siting::final_small))]
 pub fn final_poly_len(config: &WhirConfig) -> usize
     ensures value { result ≡ 2 ^ config.now.numbers.final_sumcheck_rounds }
 {

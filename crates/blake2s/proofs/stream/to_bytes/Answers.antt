@@ -1,18 +1,19 @@
-use Rattle.std.proofs.Common.{◌∙◌, arith}
-use Rattle.std.proofs.lemmas.List.{length-set}
-use Rattle.std.proofs.lemmas.List.Edits.{fill_by_more}
-use Rattle.std.proofs.lemmas.List.FromFn.{fill_by_all}
-use Rattle.blake2s.specs.Blake2s.{digest, byte_at}
+use Rattle.std.proofs.Common.{◌≡◌, ◌∙◌, sym, arith, rules}
+use Rattle.std.proofs.lemmas.List.{take_all}
+use Rattle.std.proofs.lemmas.Slice.{overwrites}
+use Rattle.blake2s.specs.Blake2s.{digest}
+use Rattle.blake2s.proofs.Digests.{word_written}
 use Rattle.blake2s.proofs.stream.to_bytes.Goals as goal
 
-pub loop-k-preserved : goal.loop-k-preserved
-unfolding byte_at
-loop-k-preserved c = (
-  length-set _ _ _ ∙ c.loop-k.invariant.0,
-  fill_by_more (byte_at c.args.h) c.loop-k.out c.loop-k.k 0 (omega (arith, c.loop-k.invariant.0)) c.loop-k.invariant.1,
+pub loop-i-preserved : goal.loop-i-preserved
+loop-i-preserved c = (
+  search (rules, overwrites),
+  word_written c.loop-i.out c.args.h _ c.loop-i.i _ c.loop-i.invariant.1 (omega arith)
+      (c.copy_from_slice.ensures.after ∙ c.to_le_bytes.ensures),
 )
 
 pub returns : goal.returns
 unfolding digest
 returns c =
-    fill_by_all (byte_at c.args.h) c.loop-k.out 32 0 c.loop-k.invariant.0 (λ j b. c.loop-k.invariant.1 j (omega arith))
+    let all : c.loop-i.i ≡ 8 = omega arith in
+    sym (take_all 32 c.loop-i.out (omega arith)) ∙ rw all at c.loop-i.invariant.1

@@ -3,7 +3,7 @@ use Rattle.std.proofs.lemmas.Bool.{and_parts}
 use Rattle.blake2s.specs.Blake2s.{hash}
 use Rattle.field.specs.Bytes.{coefficients_bytes}
 use Rattle.commit.specs.Tree.{climbs}
-use Rattle.commit.proofs.Trees.{climbs_power, climbs_inside}
+use Rattle.commit.specs.TreeLemmas.{climbs_power, climbs_inside}
 use Rattle.commit.proofs.merkle.placed_stands.Goals as goal
 
 pub returns : goal.returns

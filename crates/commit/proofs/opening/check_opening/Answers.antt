@@ -2,15 +2,12 @@ use Rattle.std.proofs.Common.{sym, ◌∙◌}
 use Rattle.commit.proofs.Openings.{bound_by_laws, own_by_laws}
 use Rattle.commit.proofs.opening.check_opening.Goals as goal
 
-pub returns : goal.returns
-returns g c =
+pub returns-clause-bound : goal.returns-clause-bound
+returns-clause-bound g c = λ t.
     let s = c.args.scheme.now in
-    let m = g.S.OpeningScheme.meaning s in
-    let Commits = g.S.OpeningScheme.commits s in
-    let laws = c.laws_stand-laws.ensures in
-    let answer = c.check.ensures in
-    record {
-      answer = answer;
-      bound = λ t. bound_by_laws m Commits laws c.args.commitment.now c.args.width c.args.positions c.args.indices.now c.args.rows.now c.args.paths.now (sym answer ∙ t);
-      own = λ o. answer ∙ own_by_laws m Commits laws c.args.commitment.now c.args.width c.args.positions c.args.indices.now c.args.rows.now c.args.paths.now o;
-    }
+    bound_by_laws (g.S.OpeningScheme.meaning s) (g.S.OpeningScheme.commits s) (g.met.S.OpeningScheme.laws s) _ _ _ _ _ _ (sym c.check.ensures ∙ t)
+
+pub returns-clause-own : goal.returns-clause-own
+returns-clause-own g c = λ o.
+    let s = c.args.scheme.now in
+    c.check.ensures ∙ own_by_laws (g.S.OpeningScheme.meaning s) (g.S.OpeningScheme.commits s) (g.met.S.OpeningScheme.laws s) _ _ _ _ _ _ o

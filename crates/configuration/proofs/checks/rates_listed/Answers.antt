@@ -1,32 +1,14 @@
-use Rattle.std.proofs.Common.{sym, ◌∙◌, arith}
-use Rattle.configuration.specs.Phases.{rates_of}
-use Rattle.configuration.proofs.Walks.{same_more, same_stop, same_end, same_apart}
-use Rattle.configuration.proofs.Rounds.{rates_length, rate_there}
+use Rattle.std.proofs.Common.{ℕ, eqb, ◌∙◌, rules, tests}
+use Rattle.std.proofs.lemmas.Iterator.{YieldsList-from_slice, YieldsList-from_zip}
+use Rattle.std.proofs.lemmas.Iterator.Search.{all_from_yields_List}
+use Rattle.configuration.specs.declared.whir_parameters.RoundConfig.{RoundConfig}
+use Rattle.configuration.proofs.Walks.{listed_same}
 use Rattle.configuration.proofs.checks.rates_listed.Goals as goal
 
 pub returns-then-listed-rounds : goal.returns-then-listed-rounds
 returns-then-listed-rounds c =
-    same_apart c.args.listed.now (rates_of c.args.rounds.now) (λ e. c.if-listed-rounds.true (e ∙ rates_length c.args.rounds.now))
-
-pub returns-then-listed-i : goal.returns-then-listed-i
-returns-then-listed-i c =
-    let listed = c.args.listed.now in
-    let rounds = c.args.rounds.now in
-    same_stop listed (rates_of rounds) c.loop-i.i _ c.loop-i.invariant (c.if-listed-rounds.false ∙ sym (rates_length rounds))
-    (omega (arith, c.loop-i-test.true, c.if-listed-rounds.false))
-    (λ e. c.if-listed-i.true (e ∙ rate_there rounds c.loop-i.i c.loop-i-test.true))
-
-pub loop-i-preserved : goal.loop-i-preserved
-loop-i-preserved c =
-    let listed = c.args.listed.now in
-    let rounds = c.args.rounds.now in
-    same_more listed (rates_of rounds) c.loop-i.i _ c.loop-i.invariant (c.if-listed-rounds.false ∙ sym (rates_length rounds))
-    (omega (arith, c.loop-i-test.true, c.if-listed-rounds.false))
-    (c.if-listed-i.false ∙ sym (rate_there rounds c.loop-i.i c.loop-i-test.true))
-
-pub returns : goal.returns
-returns c =
-    let listed = c.args.listed.now in
-    let rounds = c.args.rounds.now in
-    same_end listed (rates_of rounds) c.loop-i.i _ c.loop-i.invariant (c.if-listed-rounds.false ∙ sym (rates_length rounds))
-    (omega (arith, c.loop-i-test.false, c.if-listed-rounds.false))
+    all_from_yields_List (λ (p : ℕ × RoundConfig). eqb p.0 p.1.log_inv_rate) c.all.new.self _ _ c.all.ensures.ran
+    (YieldsList-from_zip (YieldsList-from_slice {s = c.zip-pairs.result.a} c.args.listed.now (cc))
+    (YieldsList-from_slice {s = c.zip-pairs.result.b} c.args.rounds.now (cc)))
+    (λ x b q k. search (rules, tests))
+    ∙ listed_same c.args.listed.now c.args.rounds.now c.if-listed-rounds.true

@@ -1,11 +1,8 @@
 use Rattle.std.proofs.Common.{◌/◌, ap, ◌∙◌, arith}
 use Rattle.multilinear.specs.Univariate.{pow}
-use Rattle.domain.specs.Powers.{odd_turn, even_turn, no_turns, all_turns}
+use Rattle.domain.specs.Powers.{odd_turn, even_turn, all_turns}
 use Rattle.domain.proofs.two_adic.exp.Goals as goal
 use Rattle.domain.proofs.two_adic.exp.Goals.{then-left-eq1, else-left-eq1}
-
-pub loop-left-init : goal.loop-left-init
-loop-left-init g c = no_turns g.F.Field.ops g.met.F.Field.lawful.ring c.one-power.result c.args.base c.args.exponent c.one-power.ensures
 
 pub loop-left-preserved : goal.loop-left-preserved
 loop-left-preserved g c =

@@ -1,24 +1,37 @@
-use Rattle.std.proofs.Common.{◌*◌, ◌<◌, ◌≤◌, length, sym, ap, ◌∙◌, arith}
+use Rattle.std.proofs.Common.{◌≡◌, ◌*◌, ◌/◌, ◌<◌, ◌≤◌, length, sym, ap, ◌∙◌, lit<, arith}
 use Rattle.std.proofs.lemmas.List.{take_all}
-use Rattle.field.specs.Bytes.{coefficients_bytes}
-use Rattle.field.proofs.Encoding.{read_more}
+use Rattle.std.proofs.lemmas.Grind.{common_steps}
+use Rattle.field.proofs.Encoding.{words_count, length_words, read_more, reads_words}
+use Rattle.field.specs.Extensions.{degree_small}
 use Rattle.field.proofs.bytes.read_element.Goals as goal
 
-pub loop-j-preserved : goal.loop-j-preserved
-loop-j-preserved g c =
-    let co = g.E.ExtensionField.extension.coefficients in
-    let count = g.met.E.ExtensionField.extends.count c.loop-j.y in
-    let d = c.degree-degree.ensures in
-    let l : c.loop-j.j < length (g.E.ExtensionField.extension.coefficients c.loop-j.y) = omega (arith, c.loop-j-test.true) in
-    read_more g.met.F.BaseField.numbered (co c.loop-j.y) (co c.with_coefficient-y.result) c.loop-j.j c.read_word.result c.in-Some.x c.args.bytes.now l
-    c.loop-j.invariant c.read_word.ensures.bytes c.in-Some.ensures c.with_coefficient-y.ensures
+pub push-requires : goal.push-requires
+push-requires g c =
+    let small = degree_small g.met.E.ExtensionField.sized in
+    let d = c.degree.ensures in
+    let many : length c.as_chunks.result.0.now ≡ length c.args.bytes.now / 4 = c.as_chunks.ensures.front_len in
+    let count = words_count c.loop-word.numbers.items c.args.bytes.now c.loop-word.word-index (omega (arith, c.loop-word-test.true, c.if-bytes-degree.false)) c.loop-word.invariant.read in
+    let room : length c.loop-word.numbers.items < 8 = omega (arith, c.loop-word-test.true, c.if-bytes-degree.false) in
+    (lit< tt, room)
+
+pub loop-word-preserved : goal.loop-word-preserved
+loop-word-preserved g c =
+    let many : length c.as_chunks.result.0.now ≡ length c.args.bytes.now / 4 = c.as_chunks.ensures.front_len in
+    let l : c.loop-word.word-index < length c.args.bytes.now / 4 = omega (arith, c.loop-word-test.true) in
+    let word = c.from_le_bytes.type_inv in
+    record {
+      read =
+          read_more c.loop-word.numbers.items c.push.new.self.items c.args.bytes.now _ c.as_chunks.result.0.now c.loop-word.word-index (length c.args.bytes.now / 4) c.from_le_bytes.result
+          (omega arith) c.as_chunks.ensures.front l (λ i. (c.type_inv.bytes i).fits) c.from_le_bytes.ensures c.loop-word.invariant.read c.push.ensures.items;
+      small = rw c.push.ensures.items (grind (arith, common_steps, c.loop-word.invariant.small));
+    }
 
 pub returns : goal.returns
 returns g c =
-    let cs = g.E.ExtensionField.extension.coefficients c.loop-j.y in
-    let count = g.met.E.ExtensionField.extends.count c.loop-j.y in
-    let d = c.degree-degree.ensures in
-    let done = c.loop-j-test.false in
-    let few : length (g.E.ExtensionField.extension.coefficients c.loop-j.y) ≤ c.loop-j.j = omega arith in
-    let short : length c.args.bytes.now ≤ 4 * c.loop-j.j = omega (arith, c.if-bytes-degree.false) in
-    ap (coefficients_bytes g.F.BaseField.numbering) (sym (take_all c.loop-j.j cs few)) ∙ c.loop-j.invariant ∙ take_all (4 * c.loop-j.j) c.args.bytes.now short
+    let d = c.degree.ensures in
+    let many : length c.as_chunks.result.0.now ≡ length c.args.bytes.now / 4 = c.as_chunks.ensures.front_len in
+    let whole : length c.args.bytes.now ≤ 4 * c.loop-word.word-index = omega (arith, c.loop-word-test.false, c.if-bytes-degree.false) in
+    let inv = c.loop-word.invariant in
+    let read = inv.read ∙ take_all (4 * c.loop-word.word-index) c.args.bytes.now whole in
+    let count : length c.loop-word.numbers.items ≡ g.E.ExtensionField.extension.degree = omega (arith, sym (length_words c.loop-word.numbers.items) ∙ ap length read, c.if-bytes-degree.false) in
+    reads_words g.F.BaseField.numbering g.E.ExtensionField.extension c.loop-word.numbers.items c.args.bytes.now count inv.small read c.from_numbers.result (rw c.deref.ensures.0 at c.from_numbers.ensures)

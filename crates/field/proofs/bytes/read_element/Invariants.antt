@@ -1,6 +1,10 @@
-use Rattle.std.proofs.Common.{◌≡◌, ◌*◌, take}
-use Rattle.field.specs.Bytes.{coefficients_bytes}
+use Rattle.std.proofs.Common.{◌≡◌, ◌*◌, ◌^◌, ◌<◌, take}
+use Rattle.std.specs.List.{All}
+use Rattle.field.proofs.Encoding.{words_bytes}
 use Rattle.field.proofs.bytes.read_element.Given as goal
 
-abbrev pub invariant-loop-j : goal.invariant-loop-j
-invariant-loop-j g l = coefficients_bytes g.F.BaseField.numbering (take l.j (g.E.ExtensionField.extension.coefficients l.y)) ≡ take (4 * l.j) l.bytes
+abbrev pub invariant-loop-word : goal.invariant-loop-word
+invariant-loop-word g l = record {
+  read : words_bytes l.numbers.items ≡ take (4 * l.word-index) l.bytes;
+  small : All (λ w. w < 2 ^ 32) l.numbers.items;
+}

@@ -1,11 +1,9 @@
-use Rattle.format.proofs.Digits.{valued_more, valued_all}
+use Rattle.std.proofs.Common.{◌≡◌, ◌+◌, ◌-◌, ◌*◌, ◌^◌, min, ◌∙◌, rules, arith}
+use Rattle.std.specs.List.{fold}
+use Rattle.format.proofs.Digits.{capped}
 use Rattle.format.proofs.cursor.value_of.Goals as goal
 
-pub loop-byte-preserved : goal.loop-byte-preserved
-loop-byte-preserved c =
-    valued_more c.args.digits.now c.loop-byte.byte-index c.loop-byte.value c.saturating_sub-digit.result c.saturating_mul.result
-    c.saturating_add-value.result c.loop-byte.invariant c.loop-byte-test.true c.saturating_sub-digit.ensures c.saturating_mul.ensures
-    c.saturating_add-value.ensures
-
 pub returns : goal.returns
-returns c = valued_all c.args.digits.now c.loop-byte.byte-index c.loop-byte.value c.loop-byte.invariant c.loop-byte-test.false
+returns c =
+    let e : c.fold.result ≡ fold (λ v d. min (min (v * 10) (2 ^ 128 - 1) + (d - 48)) (2 ^ 128 - 1)) 0 c.args.digits.now = search rules in
+    e ∙ capped c.args.digits.now 0 0 (omega arith)

@@ -1,14 +1,8 @@
-use Rattle.std.proofs.Common.{Err, sym, ◌∙◌, subst}
-use Rattle.format.specs.Files.{Answers}
-use Rattle.format.proofs.Outcomes.{outcome_is, outcome_wrong}
+use Rattle.std.proofs.Common.{◌∙◌, rules}
+use Rattle.format.proofs.Outcomes.{outcome_stands}
 use Rattle.format.proofs.reading.read_configuration.Goals as goal
 
-pub returns-in-Ok : goal.returns-in-Ok
-returns-in-Ok c =
-    outcome_is c.args.text.now _ _ _ (c.as_bytes.ensures.value ∙ c.word.ensures) c.from_line-rest.ensures c.in-Ok.ensures.stands
-
-pub returns-in-Err : goal.returns-in-Err
-returns-in-Err c =
-    subst (λ e. Answers (Err e) c.args.text.now) (sym c.located.ensures)
-    (outcome_wrong c.args.text.now _ _ _ c.in-Err.fault (c.as_bytes.ensures.value ∙ c.word.ensures) c.from_line-rest.ensures
-    c.in-Err.ensures.stands)
+pub returns : goal.returns
+returns c =
+    outcome_stands c.args.text.now c.as_bytes.result.now c.from_line-rest.result.now c.configuration.new.self.rest.now c.configuration.result c.map_err.result
+    (c.as_bytes.ensures.value ∙ c.word.ensures) c.from_line-rest.ensures c.configuration.ensures (search rules)

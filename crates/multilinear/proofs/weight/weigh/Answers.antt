@@ -1,30 +1,13 @@
-use Rattle.std.proofs.Common.{Some, ap, arith}
-use Rattle.multilinear.specs.Tables.{orient}
+use Rattle.std.proofs.Common.{rules, Some, ap, ◌∙◌}
+use Rattle.std.proofs.lemmas.Iterator.{YieldsList-from_slice, YieldsList-from_zip}
+use Rattle.std.proofs.lemmas.Iterator.Consumers.{YieldsList-at, YieldsList-from_first, fold_from_yields_List}
 use Rattle.multilinear.specs.Weights.{factor_of}
-use Rattle.multilinear.proofs.Corners.{length_orient}
-use Rattle.multilinear.proofs.Loops.{product_none, product_more, product_all}
+use Rattle.multilinear.proofs.Loops.{fold_product}
 use Rattle.multilinear.proofs.weight.weigh.Goals as goal
 
-pub loop-j-init : goal.loop-j-init
-loop-j-init g c =
-    product_none g.F.Field.ops g.met.F.Field.lawful.ring (factor_of g.F.Field.ops c.args.weight) c.args.point.now (orient c.args.order c.args.draws.now) c.one-all.result c.one-all.ensures
-
-pub loop-j-preserved : goal.loop-j-preserved
-loop-j-preserved g c =
+pub returns-clause-fits : goal.returns-clause-fits
+returns-clause-fits g c h =
     let F = g.F.Field.ops in
-    let L = g.met.F.Field.lawful.ring in
-    let x = orient c.args.order c.args.draws.now in
-    let len = length_orient F L c.args.order c.args.draws.now in
-    product_more F L (factor_of F c.args.weight) c.args.point.now x c.loop-j.j c.index-point-j.result c.coordinate.result c.factor.result c.loop-j.all c.mul-all.result _
-    (omega arith) (omega (arith, len)) c.index-point-j.is c.coordinate.ensures c.factor.ensures c.mul-all.ensures c.loop-j.invariant
-
-pub returns : goal.returns
-returns g c =
-    let F = g.F.Field.ops in
-    let L = g.met.F.Field.lawful.ring in
-    let x = orient c.args.order c.args.draws.now in
-    let len = length_orient F L c.args.order c.args.draws.now in
-    record {
-      fits = λ e. ap Some (product_all F L (factor_of F c.args.weight) c.args.point.now x c.loop-j.j c.loop-j.all _ (omega arith) (omega (arith, len)) c.loop-j.invariant);
-      refuses = λ ne. absurd (ne c.if-point-draws.false);
-    }
+    let f = factor_of F c.args.weight in
+    let pairs = YieldsList-from_zip (YieldsList-at c.zip.ensures.first (YieldsList-from_slice c.args.point.now (cc))) (YieldsList-at c.zip.ensures.second (YieldsList-from_first (λ x. x) (λ rest. rest) c.args.x.now (cc))) in
+    ap Some (fold_from_yields_List _ (λ s q. F.mul s (f q.0 q.1)) _ _ c.fold-all.ensures.ran pairs (λ a x b q k. search rules) ∙ fold_product F g.met.F.Field.lawful.ring f _ c.args.point.now c.args.x.now c.one.ensures)

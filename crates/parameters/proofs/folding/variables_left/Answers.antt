@@ -1,11 +1,13 @@
-use Rattle.std.proofs.Common.{◌-◌, sum, ap, ◌∙◌, arith}
-use Rattle.std.proofs.lemmas.List.{take_all}
-use Rattle.std.proofs.lemmas.List.Sums.{sum_by_more}
+use Rattle.std.proofs.Common.{rules, ◌≡◌, ◌∙◌, ℕ, ◌-◌, List, [], ◌∷◌, sum, arith}
+use Rattle.std.specs.List.{fold}
+use Rattle.std.proofs.lemmas.List.Sums.{sum_by-cons}
 use Rattle.parameters.proofs.folding.variables_left.Goals as goal
 
-pub loop-factor-preserved : goal.loop-factor-preserved
-loop-factor-preserved c =
-    omega (arith, c.saturating_sub-remaining.ensures, c.loop-factor.invariant, sum_by_more (λ x. x) c.args.factors.now c.loop-factor.factor-index 0 c.loop-factor-test.true)
+fold-sub : (n : ℕ) (ks : List ℕ) → fold (λ left k. left - k) n ks ≡ n - sum ks
+fold-sub n [] = omega arith
+fold-sub n (k ∷ ks) = fold-sub (n - k) ks ∙ omega (arith, sum_by-cons (λ x. x) k ks)
 
 pub returns : goal.returns
-returns c = c.loop-factor.invariant ∙ ap (λ l. c.args.num_variables - sum l) (take_all c.loop-factor.factor-index c.args.factors.now c.loop-factor-test.false)
+returns c =
+    let e : c.fold.result ≡ fold (λ left k. left - k) c.args.num_variables c.args.factors.now = search rules in
+    e ∙ fold-sub c.args.num_variables c.args.factors.now

@@ -13,4 +13,4 @@ returns g c =
     opened g.S.Sponge.rules _ _ _ _ _ (pattern c.args.degree (shape (numbers_of c.args.config.now.numbers) c.args.num_opening_claims))
     (instances (shape (numbers_of c.args.config.now.numbers) c.args.num_opening_claims)) c.observe.ensures c.observe-2.ensures
     (steps_taken g.S.Sponge.rules _ _ _ _ (numbers_of c.args.config.now.numbers) c.args.degree c.args.num_opening_claims c.observe_bracket.ensures c.observe_rounds.ensures
-    (c.observe_final.ensures c.args.num_opening_claims)) c.observe_instances.ensures
+    c.observe_final.ensures) c.observe_instances.ensures

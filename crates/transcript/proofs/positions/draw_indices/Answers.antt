@@ -1,15 +1,11 @@
-use Rattle.transcript.proofs.Filling.{filling_begins, filling_more, filling_ends}
+use Rattle.std.proofs.Common.{◌<◌, length, arith}
+use Rattle.transcript.proofs.Filling.{indices_begin, index_more}
 use Rattle.transcript.proofs.positions.draw_indices.Goals as goal
 
-pub loop-i-init : goal.loop-i-init
-loop-i-init g c = filling_begins g.S.Sponge.rules _ c.args.bits c.args.stride c.args.count c.args.from c.args.out.now
+pub loop-j-init : goal.loop-j-init
+loop-j-init g c = indices_begin _ _ _ _
 
-pub loop-i-preserved : goal.loop-i-preserved
-loop-i-preserved g c =
-    filling_more g.S.Sponge.rules _ _ _ c.args.bits c.args.stride c.args.count c.loop-i.i c.args.from c.draw_bits-low.result c.args.out.now c.loop-i.out
-    c.loop-i-test.true c.requires.0 c.loop-i.invariant c.draw_bits-low.ensures
-
-pub returns : goal.returns
-returns g c =
-    filling_ends g.S.Sponge.rules _ _ c.args.bits c.args.stride c.args.count c.loop-i.i c.args.from c.args.out.now c.loop-i.out
-    c.loop-i-test.false c.loop-i.auto.i-end c.loop-i.invariant
+pub loop-j-preserved : goal.loop-j-preserved
+loop-j-preserved g c =
+    let there : c.loop-j.j < length c.loop-j.out = omega (arith, c.loop-j-test.true, c.loop-j.auto.out) in
+    index_more g.S.Sponge.rules _ _ _ c.args.bits c.args.stride c.loop-j.j c.draw_bits-low.result c.loop-j.out there c.loop-j.invariant c.draw_bits-low.ensures

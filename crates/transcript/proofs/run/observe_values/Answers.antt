@@ -1,9 +1,5 @@
-use Rattle.sponge.proofs.Leads.{leads_none}
 use Rattle.transcript.proofs.Stepping.{value_on, values_end}
 use Rattle.transcript.proofs.run.observe_values.Goals as goal
-
-pub loop-value-init : goal.loop-value-init
-loop-value-init g c = leads_none _ _ _
 
 pub loop-value-preserved : goal.loop-value-preserved
 loop-value-preserved g c =

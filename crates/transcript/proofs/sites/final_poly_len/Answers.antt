@@ -3,10 +3,6 @@ use Rattle.configuration.specs.Numbers.{numbers_of}
 use Rattle.transcript.proofs.Siting.{final_small, shifted}
 use Rattle.transcript.proofs.sites.final_poly_len.Goals as goal
 
-pub overflow_shl-result : goal.overflow_shl-result
-overflow_shl-result c =
-    let small = final_small (numbers_of c.args.config.now.numbers) c.args.config.now.checked in omega (arith, small)
-
 pub returns : goal.returns
 returns c =
     let small = final_small (numbers_of c.args.config.now.numbers) c.args.config.now.checked in

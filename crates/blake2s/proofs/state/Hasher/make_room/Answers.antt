@@ -11,7 +11,3 @@ returns-then-self-eq64 c =
           λ xs n cut.
           (suc n, pressed_buffer c.args.self.now c.press.new.self c.if-self-eq64.true long c.press.ensures xs n cut);
     }
-
-pub returns-else-self-eq64 : goal.returns-else-self-eq64
-returns-else-self-eq64 c =
-    record { room = omega (arith, c.args.self.now.fits, c.if-self-eq64.false); keeps = λ xs n cut. (n, cut) }

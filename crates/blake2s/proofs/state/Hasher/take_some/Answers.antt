@@ -1,23 +1,26 @@
-use Rattle.std.proofs.Common.{suc, ◌<◌, ◌≤◌, length, arith, lit<}
+use Rattle.std.proofs.Common.{suc, ◌<◌, ◌≤◌, ◌≢◌, length, arith, lit<}
+use Rattle.std.proofs.lemmas.Bool.Decides.{nat_tests}
 use Rattle.blake2s.proofs.Steps.{pressed_bytes, filled}
 use Rattle.blake2s.proofs.state.Hasher.take_some.Goals as goal
 
-pub returns-then-rest-gt64 : goal.returns-then-rest-gt64
-returns-then-rest-gt64 c =
-    let long : 64 ≤ length c.args.rest.now = omega (arith, c.if-rest-gt64.true) in
+pub returns-in-Some : goal.returns-in-Some
+returns-in-Some c =
+    let cut = c.in-Some.ensures.cases in
+    let long : 64 ≤ length c.args.rest.now = omega arith in
+    let some : length c.in-Some.more.now ≢ 0 = grind (arith, nat_tests) in
     record {
       some = lit< tt;
       within = long;
-      held = λ e. absurd (omega (arith, e, c.if-rest-gt64.true));
+      held = λ e. absurd (some (omega arith));
       keeps =
-          λ xs n cut. (
+          λ xs n before. (
             suc n,
-            pressed_bytes c.args.self.now c.press.new.self c.args.rest.now c.if-self-eq0.true long c.press.ensures xs n cut,
+            pressed_bytes c.args.self.now c.press.new.self c.in-Some.block.now c.args.rest.now c.if-self-eq0.true cut.0 long c.press.ensures xs n before,
           );
     }
 
-pub returns-else-self-eq0 : goal.returns-else-self-eq0
-returns-else-self-eq0 c =
+pub returns-in_default : goal.returns-in_default
+returns-in_default c =
     let e = c.fill.ensures in
     let some : 0 < c.fill.result = omega (arith, e.taken, c.requires) in
     let within : c.fill.result ≤ length c.args.rest.now = omega (arith, e.taken) in

@@ -1,5 +1,5 @@
 use Rattle.std.proofs.Common.{sym, ◌∙◌}
-use Rattle.commit.proofs.Spreads.{some_degree, count_same}
+use Rattle.commit.specs.SpreadLaws.{some_degree, count_same}
 use Rattle.commit.proofs.view.CoefficientsRows.count_is.Goals as goal
 
 pub returns : goal.returns

@@ -1,5 +1,5 @@
 use Rattle.std.proofs.Common.{List, [], ◌++◌, sym, subst, append-nil}
-use Rattle.commit.proofs.Spreads.{spread_piece}
+use Rattle.commit.specs.SpreadLaws.{spread_piece}
 use Rattle.commit.proofs.view.CoefficientsRows.feed.Goals as goal
 
 pub returns : goal.returns

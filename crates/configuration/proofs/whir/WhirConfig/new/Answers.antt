@@ -17,15 +17,15 @@ returns-in_err-schedule c =
       keeps = rw p.1 tt;
     }
 
-pub returns-in_err-check_phases : goal.returns-in_err-check_phases
-returns-in_err-check_phases c =
+pub returns-in_err-check : goal.returns-in_err-check
+returns-in_err-check c =
     let N = numbers_of c.args.numbers in
-    let p = err_from_is_err_and c.from_residual-in_err-check_phases.result c.from_residual-in_err-check_phases.ensures.1 in
+    let p = err_from_is_err_and c.from_residual-in_err-check.result c.from_residual-in_err-check.ensures.1 in
     record {
       answers = rw (p.1, p.2)
-          (broke_phases N (vec_items c.in_ok-schedule.schedule) c.as_slice.result.now c.in_err-check_phases.field-0.0
+          (broke_phases N (vec_items c.in_ok-schedule.schedule) c.as_slice.result.now c.in_err-check.field-0.0
           (sym c.if-not-within_limits.ensures) c.in_ok-schedule.ensures.answers c.as_slice.ensures.value
-          c.in_err-check_phases.ensures);
+          c.in_err-check.ensures);
       keeps = rw p.1 tt;
     }
 
@@ -35,5 +35,5 @@ invariant_of-result c =
     record {
       checked =
           none_flawless N (passed N (vec_items c.in_ok-schedule.schedule) c.as_slice.result.now (sym c.if-not-within_limits.ensures)
-          c.in_ok-schedule.ensures.answers c.as_slice.ensures.value c.in_ok-check_phases.ensures);
+          c.in_ok-schedule.ensures.answers c.as_slice.ensures.value c.in_ok-check.ensures);
     }

@@ -3,7 +3,7 @@ use Rattle.ring.specs.Ring.{Ops}
 use Rattle.multilinear.specs.Univariate.{expand}
 use Rattle.domain.specs.Domains.{inside, coordinate}
 use Rattle.domain.specs.Listed.{listed}
-use Rattle.domain.proofs.Inside.{inside_log, inside_few, inside_index, coordinate_inside}
+use Rattle.domain.proofs.Inside.{inside_log, inside_few, inside_index, coordinate_inside, not_refused}
 use Rattle.domain.proofs.listed.ListedDomainWhirDomain.query_coordinate.Goals as goal
 
 -- an index inside is a place of the list
@@ -23,10 +23,4 @@ listed_coordinate F l c log m index j x r e h is made =
 pub element-requires : goal.element-requires
 element-requires g c =
     let d = c.args.self.now in
-    listed_index d.log c.args.log_domain_size c.args.num_variables c.args.index (length d.points.now) d.size c.if-not-is_inside.ensures
-
-pub returns : goal.returns
-returns g c =
-    let d = c.args.self.now in
-    listed_coordinate g.F.Field.ops d.points.now d.log c.args.log_domain_size c.args.num_variables c.args.index c.args.j c.element.result
-    c.coordinate_of.result c.if-not-is_inside.ensures c.if-j-num_variables.false c.element.ensures c.coordinate_of.ensures
+    listed_index d.log c.args.log_domain_size c.args.num_variables c.args.index (length d.points.now) d.size (not_refused _ c.in_ok-require_inside.ensures)

@@ -1,8 +1,0 @@
-use Rattle.std.proofs.Common.{◌≡◌, true}
-use Rattle.configuration.specs.Numbers.{numbers_of}
-use Rattle.configuration.specs.Phases.{every, left, opening_within}
-use Rattle.configuration.proofs.whir_parameters.WhirNumbers.openings_within.Given as goal
-
-abbrev pub invariant-loop-i : goal.invariant-loop-i
-invariant-loop-i l =
-    (l.left ≡ left (numbers_of l.self) l.schedule l.i) × (every l.i (opening_within (numbers_of l.self) l.schedule) ≡ true)

@@ -1,5 +1,0 @@
-use Rattle.std.proofs.Common.{refl}
-use Rattle.transcript.proofs.run.Run.delegate_initial_fold.Goals as goal
-
-pub returns : goal.returns
-returns g c = record { comes = refl }
