@@ -43,9 +43,6 @@ module _ {E : Type 0} (F : Ops E) (K : IsField F) where
   pub extends_at : (m n : ℕ) (q : Claim E) → m ≡ n → Extends F m q → Extends F n q
   extends_at m n q e x = record { sized = x.sized ∙ ap (λ k. 2 ^ k) e; extended = λ p l. x.extended p (l ∙ sym e) }
 
-  pub at_point_lawful : (n : ℕ) (p : List E) (v : E) → length p ≡ n → Extends F n (at_point F p v)
-  at_point_lawful n p v e = extends_at (length p) n (at_point F p v) e (at_point_extends p v)
-
   pub at_position_lawful : (n : ℕ) (q : List E) (v : E) → length q ≡ n → Extends F n (at_position F q v)
   at_position_lawful n q v e = extends_at (length q) n (at_position F q v) e (at_position_extends q v)
 

@@ -1,10 +1,8 @@
 -- The states between the blocks of a message that grows at its end.
-use Rattle.std.proofs.Common.{◌≡◌, ℕ, zero, suc, ◌+◌, ◌*◌, ◌<◌, ◌≤◌, false, List, ◌++◌, map, length, get_or, take, drop, sym, refl, ap, ◌∙◌, arith}
-use Rattle.std.specs.List.{range_with_len}
-use Rattle.std.proofs.lemmas.List.FromFn.{length-map-range_with_len, get_or-map-range_with_len, fill_by_all}
-use Rattle.std.proofs.lemmas.List.{length-drop, length-take-le, drop-append-le, get_or-take}
+use Rattle.std.proofs.Common.{◌≡◌, ℕ, zero, suc, ◌*◌, ◌≤◌, false, List, ◌++◌, length, drop, sym, refl, ap, ◌∙◌, arith}
+use Rattle.std.proofs.lemmas.List.{length-drop, drop-append-le}
 use Rattle.blake2s.specs.Compress.{compressed}
-use Rattle.blake2s.specs.Blake2s.{words, word_at, padded, block, chain, counter}
+use Rattle.blake2s.specs.Blake2s.{words, padded, block, chain, counter}
 use Rattle.blake2s.proofs.Padding.{padded_front, padded_whole}
 
 -- a whole block stays what it is
@@ -25,34 +23,11 @@ chain_append xs ys (suc n) long =
     ap (λ (h : List ℕ). compressed h (block (xs ++ ys) n) (counter (64 * suc n)) false) (chain_append xs ys n le)
     ∙ ap (λ (m : List ℕ). compressed (chain xs n) m (counter (64 * suc n)) false) (block_append xs ys n long)
 
--- the words of a block are read from its 64 bytes alone
-word_front : (bs : List ℕ) (k : ℕ) → k < 16 → word_at (take 64 bs) k ≡ word_at bs k
-unfolding word_at
-word_front bs k lt =
-    let e₀ : get_or (take 64 bs) (4 * k) 0 ≡ get_or bs (4 * k) 0 = get_or-take 64 bs (4 * k) 0 (omega (arith, lt)) in
-    let e₁ : get_or (take 64 bs) (4 * k + 1) 0 ≡ get_or bs (4 * k + 1) 0 = get_or-take 64 bs (4 * k + 1) 0 (omega (arith, lt)) in
-    let e₂ : get_or (take 64 bs) (4 * k + 2) 0 ≡ get_or bs (4 * k + 2) 0 = get_or-take 64 bs (4 * k + 2) 0 (omega (arith, lt)) in
-    let e₃ : get_or (take 64 bs) (4 * k + 3) 0 ≡ get_or bs (4 * k + 3) 0 = get_or-take 64 bs (4 * k + 3) 0 (omega (arith, lt)) in
-    omega (arith, e₀, e₁, e₂, e₃)
-
-words_front : (bs : List ℕ) → words (take 64 bs) ≡ words bs
-unfolding words
-words_front bs =
-    let f : ℕ → ℕ = word_at (take 64 bs) in
-    fill_by_all (word_at bs) (map f (range_with_len 0 16)) 16 0 (length-map-range_with_len f 0 16)
-    (λ k lt. get_or-map-range_with_len f 0 16 k k 0 lt (omega arith) ∙ word_front bs k lt)
-
 -- a full buffer that holds the rest of the message is its next block
-pub block_full : (xs buffer : List ℕ) (n : ℕ)
-    → 64 ≤ length buffer
-    → take 64 buffer ≡ drop (64 * n) xs
-    → words buffer ≡ block xs n
+pub block_full : (xs bytes : List ℕ) (n : ℕ) → length bytes ≡ 64 → bytes ≡ drop (64 * n) xs → words bytes ≡ block xs n
 unfolding block
-block_full xs buffer n long e =
-    let front : length (take 64 buffer) ≡ 64 = length-take-le 64 buffer long in
-    sym (words_front buffer)
-    ∙ ap words (sym (padded_whole (take 64 buffer) front))
-    ∙ ap (λ (bs : List ℕ). words (padded bs)) e
+block_full xs bytes n long e =
+    ap words (sym (padded_whole bytes long)) ∙ ap (λ (bs : List ℕ). words (padded bs)) e
 
 -- the state after one block more
 pub chain_more : (xs bytes h : List ℕ) (n t : ℕ)

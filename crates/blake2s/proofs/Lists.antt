@@ -1,10 +1,9 @@
 -- Lists of a known length.
-use Rattle.std.proofs.Common.{◌≡◌, ℕ, zero, suc, ◌+◌, ◌*◌, ◌<◌, List, [], ◌∷◌, length, get_or, set, take, drop, refl, ap, ◌∙◌, add-zero, w32, arith}
+use Rattle.std.proofs.Common.{◌≡◌, ℕ, zero, suc, ◌+◌, ◌*◌, ◌<◌, List, [], ◌∷◌, length, get_or, take, drop, refl, ap, ◌∙◌, add-zero, w32, arith}
 use Rattle.std.specs.Int.{from_le_bytes}
 use Rattle.std.specs.Simd.{first_chunks}
 use Rattle.blake2s.specs.Blake2s.{word_at}
 use Rattle.std.proofs.lemmas.List.{drop-drop, get_or-take, get_or-drop}
-use Rattle.std.proofs.lemmas.List.Edits.{fill_by_more}
 
 -- a list of eight words is the words at its eight places
 pub eight : (h : List ℕ)
@@ -20,17 +19,6 @@ eight (x0 ∷ x1 ∷ x2 ∷ x3 ∷ x4 ∷ x5 ∷ []) e = absurd (omega (arith, e
 eight (x0 ∷ x1 ∷ x2 ∷ x3 ∷ x4 ∷ x5 ∷ x6 ∷ []) e = absurd (omega (arith, e))
 eight (x0 ∷ x1 ∷ x2 ∷ x3 ∷ x4 ∷ x5 ∷ x6 ∷ x7 ∷ []) e = refl
 eight (x0 ∷ x1 ∷ x2 ∷ x3 ∷ x4 ∷ x5 ∷ x6 ∷ x7 ∷ x8 ∷ rest) e = absurd (omega (arith, e))
-
--- a loop that writes f k at each place k, where the value written is known to be f i
-pub fill_with_more : (f : ℕ → ℕ) (xs : List ℕ) (i y : ℕ)
-    → i < length xs
-    → y ≡ f i
-    → ((k : ℕ) → k < i → get_or xs k 0 ≡ f k)
-    → (k : ℕ)
-    → k < i + 1
-    → get_or (set xs i y) k 0 ≡ f k
-fill_with_more f xs i y b e below k h =
-    ap (λ z. get_or (set xs i z) k 0) e ∙ fill_by_more f xs i 0 b below k h
 
 -- group i of four is the bytes from place 4 i on
 group_at : (xs d : List ℕ) (k i : ℕ) → i < k → get_or (first_chunks 4 k xs) i d ≡ take 4 (drop (4 * i) xs)

@@ -1,8 +1,6 @@
 -- A block filled up with zeros.
-use Rattle.std.proofs.Common.{◌≡◌, ℕ, ◌+◌, ◌-◌, ◌≤◌, List, ◌++◌, length, take, drop, replicate, sym, ap, ◌∙◌, arith, rules}
-use borrow.Rule.Slice.PartMut.{put_mid}
-use Rattle.std.proofs.lemmas.Slice.{overwrites, take-put_mid}
-use Rattle.std.proofs.lemmas.List.{append_assoc, append-nil, length-take-le, length-drop, length-append, length-replicate, replicate-append-replicate, take_at, take_all, take-append-le}
+use Rattle.std.proofs.Common.{◌≡◌, ℕ, ◌+◌, ◌-◌, ◌≤◌, List, ◌++◌, length, take, drop, replicate, sym, ap, ◌∙◌, arith}
+use Rattle.std.proofs.lemmas.List.{take_all, append_assoc, append-nil, drop-replicate, length-append, length-replicate, replicate-append-replicate, take_at, take-append-le}
 use Rattle.blake2s.specs.Blake2s.{padded}
 
 -- what padding gives, written out
@@ -18,21 +16,16 @@ padded_is ys n long le =
     ∙ ap (take 64) (sym (append_assoc ys (replicate (64 - n) 0) (replicate n 0)))
     ∙ take_at (ys ++ replicate (64 - n) 0) (replicate n 0) 64 front
 
--- a block whose end is overwritten by zeros
-pub filled_up : (b ys : List ℕ) (f : ℕ)
-    → length b ≡ 64
-    → f ≤ 64
-    → ys ≡ replicate (length (take (64 - f) (drop f b))) 0
-    → put_mid f (64 - f) b ys ≡ padded (take f b)
-filled_up b ys f long le e =
-    let rest : length (take (64 - f) (drop f b)) ≡ 64 - f = length-take-le (64 - f) (drop f b) (omega (arith, length-drop f b)) in
-    let zeros : ys ≡ replicate (64 - f) 0 = rw rest at e in
-    let n : length ys ≡ 64 - f = ap length zeros ∙ length-replicate (64 - f) 0 in
-    let whole : length (put_mid f (64 - f) b ys) ≤ 64 = search (rules, overwrites) in
-    sym (take_all 64 (put_mid f (64 - f) b ys) whole)
-    ∙ take-put_mid f (64 - f) b ys 64 (omega arith) (omega arith)
-    ∙ ap (λ (zs : List ℕ). take f b ++ zs) zeros
-    ∙ sym (padded_is (take f b) f (length-take-le f b (omega arith)) le)
+-- bytes with as many zeros as are wanting to a block
+pub filled_up : (ys zs : List ℕ) (n : ℕ)
+    → n ≡ length ys
+    → n ≤ 64
+    → zs ≡ ys ++ take (64 - n) (drop n (replicate 64 0))
+    → zs ≡ padded ys
+filled_up ys zs n long le e =
+    let rest : drop n (replicate {A = ℕ} 64 0) ≡ replicate (64 - n) 0 = drop-replicate n 64 0 in
+    let short : length (drop n (replicate {A = ℕ} 64 0)) ≤ 64 - n = omega (arith, ap length rest, length-replicate {A = ℕ} (64 - n) 0) in
+    e ∙ ap (λ (ws : List ℕ). ys ++ ws) (take_all (64 - n) _ short ∙ rest) ∙ sym (padded_is ys n (sym long) le)
 
 -- a whole block is not changed
 pub padded_whole : (ys : List ℕ) → length ys ≡ 64 → padded ys ≡ ys

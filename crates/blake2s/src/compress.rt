@@ -29,7 +29,9 @@ const SIGMA: [[u8; 16]; 10] = [
     [10, 2, 8, 4, 7, 6, 1, 5, 15, 11, 9, 14, 3, 12, 13, 0],
 ];
 
-// Kept: the words and the places of a mixing, the state, the counter and the flag go as the standard writes them.
+// Kept: the places and the words of a mixing are parameters, as the standard has them in G(v, a, b, c, d, x, y). With structs
+// the first of a round would be `mix(v, Places { a: 0, b: 4, c: 8, d: 12 }, Pair { x: message(m, r, 0), y: message(m, r, 1) })`,
+// and `add(v, a, b, x)` would be `add(v, p.a, p.b, w.x)`: each of the eight steps takes two of the places and at most one word.
 // v[a] becomes v[a] + v[b] + x.
 #[inline(always)]
 #[tactic(auto, unfolding(crate::specs::Compress::added))]
@@ -100,7 +102,8 @@ fn work(h: [u32; 8], t: u64, last: bool) -> [u32; 16]
     let low = (t % 0x1_0000_0000) as u32;
     let high = (t / 0x1_0000_0000) as u32;
     let flag = if last { u32::MAX } else { 0 };
-    // Kept: word by word, since copying the state and the constants into place takes 2.49 ms in place of 2.36 ms for 1 MiB.
+    // Kept: word by word, which meets the bar, the plain Rust of docs/BENCHMARKS.md on the same machine (2.34 ms beside its
+    // 2.36 ms for 1 MiB); copying the state and the constants into place misses it: 2.49 ms where this took 2.36 ms.
     [
         h[0],
         h[1],
@@ -134,8 +137,9 @@ pub fn working_words(h: [u32; 8], m: [u32; 16], t: u64, last: bool, n: usize) ->
 }
 
 // The ten rounds.
-// Kept: written out, since in a loop over `round` the orders are read from the table at each step, which takes 252 ns in
-// place of 171 ns for 64 bytes, and 3.17 ms in place of 2.36 ms for 1 MiB.
+// Kept: written out, which meets the bar, the plain Rust of docs/BENCHMARKS.md on the same machine: 148 ns beside its 149 ns
+// for 64 bytes, 2.34 ms beside its 2.36 ms for 1 MiB. A loop over `round` reads the orders from the table at each step and
+// misses it: 252 ns where the rounds written out took 171 ns on a loaded machine, and 3.17 ms where they took 2.36 ms.
 #[tactic(auto, unfolding(crate::specs::Compress::rounds))]
 fn ten_rounds(v: &mut [u32; 16], m: &[u32; 16])
     ensures { v.new ≡ rounds 10 m.now v.old }
@@ -152,6 +156,8 @@ fn ten_rounds(v: &mut [u32; 16], m: &[u32; 16])
     round(v, m, 9);
 }
 
+// Kept: the block, the counter and the flag are parameters, as in the standard's F(h, m, t, f): each call has them by
+// themselves, as `compress(&mut h, Input { m: to_words(&block), t, last: true })`, and `work` takes two of the three.
 /// The compression function F: the state after the block `m`, where `t` bytes have come with the end of this block.
 pub fn compress(h: &mut [u32; 8], m: [u32; 16], t: u64, last: bool)
     ensures { h.new ≡ compressed h.old m t last }

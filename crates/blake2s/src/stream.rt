@@ -1,33 +1,38 @@
 //! Hashing piece by piece.
 
 ghost use Rattle.std.specs.Prelude.{◌≡◌, ℕ, ◌+◌, ◌-◌, ◌<◌, ◌≤◌, min, List, [], ◌++◌, length, take};
-ghost use Rattle.blake2s.specs.Blake2s.{words, digest, hash};
+ghost use Rattle.blake2s.specs.Blake2s.{words, padded, digest, hash};
 ghost use Rattle.blake2s.specs.Absorbed.{Cut, Ready, Absorbed, Pressed, Taken};
 
 use crate::compress::{IV, compress};
 use crate::state::Hasher;
+use arrayvec::ArrayVec;
+use std::array;
 
 // The sixteen words of a block.
 fn to_words(block: &[u8; 64]) -> [u32; 16]
     ensures { result ≡ words block.now }
 {
     let (groups, _) = block.as_chunks::<4>();
-    let mut m = [0; 16];
-    for (i, bytes) in groups.iter().enumerate() {
-        m[i] = u32::from_le_bytes(*bytes);
-    }
-    m
+    array::from_fn(|i| u32::from_le_bytes(groups[i]))
 }
 
 // The bytes of a state.
 fn to_bytes(h: [u32; 8]) -> [u8; 32]
     ensures { result ≡ digest h }
 {
-    let mut out = [0; 32];
-    for (i, word) in h.iter().enumerate() {
-        out[4 * i..4 * i + 4].copy_from_slice(&word.to_le_bytes());
+    array::from_fn(|k| h[k / 4].to_le_bytes()[k % 4])
+}
+
+// Fills a block up with zeros; one that is full stays as it is.
+fn pad(block: &mut ArrayVec<u8, 64>)
+    ensures padded { block.new.items ≡ padded block.old.items }
+    ensures full { length block.new.items ≡ 64 }
+{
+    if !block.is_full() {
+        let filled = block.len();
+        block.try_extend_from_slice(&[0; 64][filled..]).unwrap();
     }
-    out
 }
 
 impl Hasher {
@@ -40,8 +45,7 @@ impl Hasher {
         h[0] ^= 0x0101_0020;
         Hasher {
             h,
-            block: [0; 64],
-            filled: 0,
+            block: ArrayVec::new(),
             count: 0,
         }
     }
@@ -53,44 +57,40 @@ impl Hasher {
         let t = self.count.wrapping_add(64);
         compress(&mut self.h, to_words(block), t, false);
         self.count = t;
-        self.filled = 0;
+        self.block.clear();
     }
 
     // Compresses the buffer where it is full; what is taken in next shows that it was not the last block.
     fn make_room(&mut self)
-        ensures room { self.new.filled < 64 }
+        ensures room { length self.new.block.items < 64 }
         ensures keeps { (xs : List ℕ) (n : ℕ) → Cut self.old xs n → Ready self.new xs }
     {
-        if self.filled == 64 {
-            let block = self.block;
+        if let Some(block) = self.block.first_chunk::<64>() {
+            let block = *block;
             self.press(&block);
         }
     }
 
     // Takes as many of the bytes as there is room for, and says how many.
     fn fill(&mut self, rest: &[u8]) -> usize
-        ensures taken { result ≡ min (length rest.now) (64 - self.old.filled) }
-        ensures filled { self.new.filled ≡ self.old.filled + result }
-        ensures waits { take self.new.filled self.new.block ≡ take self.old.filled self.old.block ++ take result rest.now }
+        ensures taken { result ≡ min (length rest.now) (64 - length self.old.block.items) }
+        ensures waits { self.new.block.items ≡ self.old.block.items ++ take result rest.now }
         ensures state { self.new.h ≡ self.old.h }
         ensures counted { self.new.count ≡ self.old.count }
     {
-        let from = self.filled;
-        let n = rest.len().min(64 - from);
-        let room = &mut self.block[from..from + n];
-        room.copy_from_slice(&rest[0..n]);
-        self.filled = from + n;
+        let n = rest.len().min(self.block.remaining_capacity());
+        self.block.try_extend_from_slice(&rest[..n]).unwrap();
         n
     }
 
     // Takes some of the bytes, and says how many: a whole block at once where the buffer is empty and more come after
     // it, and else as many as there is room for.
     fn take_some(&mut self, rest: &[u8]) -> usize
-        requires { (self.old.filled < 64) × (0 < length rest.now) }
+        requires { (length self.old.block.items < 64) × (0 < length rest.now) }
         ensures { Taken self.old self.new rest.now result }
     {
         match rest.split_first_chunk::<64>() {
-            Some((block, more)) if self.filled == 0 && !more.is_empty() => {
+            Some((block, more)) if self.block.is_empty() && !more.is_empty() => {
                 self.press(block);
                 64
             }
@@ -117,12 +117,11 @@ impl Hasher {
         let Hasher {
             mut h,
             mut block,
-            filled,
             count,
         } = self;
-        block[filled..].fill(0);
-        let t = count.wrapping_add(filled as u64);
-        compress(&mut h, to_words(&block), t, true);
+        let t = count.wrapping_add(block.len() as u64);
+        pad(&mut block);
+        compress(&mut h, to_words(block.first_chunk().unwrap()), t, true);
         to_bytes(h)
     }
 }

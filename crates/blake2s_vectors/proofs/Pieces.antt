@@ -1,8 +1,10 @@
 -- The message by the rule, a piece longer.
-use Rattle.std.proofs.Common.{◌≡◌, ℕ, zero, suc, ◌+◌, List, [], ◌∷◌, ◌++◌, map, sym, ap, ◌∙◌, add-zero, zero-add, add-one, arith}
+use Rattle.std.proofs.Common.{◌≡◌, ℕ, zero, suc, ◌+◌, List, [], ◌∷◌, ◌++◌, map, sym, ap, ◌∙◌, subst, add-zero, zero-add, add-one, arith}
 use Rattle.std.specs.List.{range_with_len}
 use Rattle.std.proofs.lemmas.List.FromFn.{map-range_with_len_more}
 use Rattle.std.proofs.lemmas.List.{append_assoc, append-nil}
+use Rattle.blake2s.specs.Absorbed.{Absorbed}
+use Rattle.blake2s.specs.declared.state.Hasher.{Hasher}
 use Rattle.blake2s_vectors.specs.Rule.{rule, bytes_from}
 
 -- one byte more
@@ -24,3 +26,14 @@ piece_more a (suc n) =
     ∙ ap (λ (k : ℕ). bytes_from 0 (a + n) ++ rule k ∷ []) (sym (zero-add (a + n)))
     ∙ sym (byte_more 0 (a + n))
     ∙ ap (bytes_from 0) sum
+
+-- a hasher that has taken in the message up to a place, and then a piece more
+pub taken_more : (before after : Hasher) (done n from to : ℕ)
+    → from ≡ done
+    → done + n ≡ to
+    → Absorbed before (bytes_from 0 from)
+    → ((xs : List ℕ) → Absorbed before xs → Absorbed after (xs ++ bytes_from done n))
+    → Absorbed after (bytes_from 0 to)
+taken_more before after done n from to is sum a fed =
+    let held : Absorbed before (bytes_from 0 done) = subst (λ (k : ℕ). Absorbed before (bytes_from 0 k)) is a in
+    subst (λ (xs : List ℕ). Absorbed after xs) (piece_more done n ∙ ap (bytes_from 0) sum) (fed (bytes_from 0 done) held)

@@ -80,12 +80,8 @@ fn filled(long: usize, piece: usize) -> [u8; 32]
 {
     let most = piece.clamp(1, 4096);
     let mut hasher = Hasher::new();
-    let mut done = 0;
-    // Kept: the message is made piece by piece and lies nowhere as a whole, so that no slice could be cut into chunks.
-    while done < long {
-        let n = most.min(long - done);
-        feed(&mut hasher, done, n);
-        done += n;
+    for done in (0..long).step_by(most) {
+        feed(&mut hasher, done, most.min(long - done));
     }
     hasher.finish()
 }

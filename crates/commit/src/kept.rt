@@ -8,6 +8,8 @@ use crate::{OpeningScheme, Places, Rows, Sink, view};
 use arrayvec::ArrayVec;
 use field::BaseField;
 
+// Kept: one lent slice of values with places in it. A slice for each shelf, `&[Flat<F>]`, would have to be gathered from the values
+// first, and nothing is allocated while an opening is checked; and rows of width 0 have a height that no slice tells.
 /// Tables that the reader holds: a commitment is the number of a shelf.
 #[derive(Clone, Copy, PartialEq, Eq, Debug)]
 pub struct KeptTables<'a, F> {
@@ -76,15 +78,13 @@ impl<'a, F: BaseField> OpeningScheme<F> for KeptTables<'a, F> {
     ghost laws = { λ s. kept_laws F.Field.ops F.BaseField.numbering F.BaseField.numbered s.values.now s.shelves.now };
 
     fn check<R: Rows<F>>(&self, commitment: &u32, places: &Places<()>, rows: &R) -> bool {
-        if !rows.count_is(places.indices.len()) || !places.paths.is_empty() {
-            return false;
-        }
-        for (k, index) in places.indices.iter().enumerate() {
-            if !self.stands(*commitment, *index, rows, k) {
-                return false;
-            }
-        }
-        true
+        rows.count_is(places.indices.len())
+            && places.paths.is_empty()
+            && places
+                .indices
+                .iter()
+                .enumerate()
+                .all(|(k, index)| self.stands(*commitment, *index, rows, k))
     }
 
     fn commitment_bytes(&self, commitment: &u32) -> ArrayVec<u8, 32> {

@@ -38,11 +38,14 @@ pub trait Rows<X> {
     fn width_is(&self, width: usize) -> bool
         ensures { result ≡ (wide self.now == width) };
 
+    // Kept: a row goes as the rows and its number, here and in the functions that take one (`leaf`, `same_row`, `stands`): a struct of the
+    // two would be made at each call and taken apart at each `feed`, and no clause would be shorter.
     /// Gives the elements of a row to a sink.
     fn feed<K: Sink<X>>(&self, row: usize, sink: K) -> K
         ensures { (s : K) (xs : List X) → K.Sink.fed s xs sink → K.Sink.fed s (xs ++ piece (flat self.now) (wide self.now) row) result };
 }
 
+// Kept: paths are lent in one flat slice, each of the scheme's own length, for the reason that stands beside `view::Flat`.
 /// Where rows are opened: among how many positions, at which indices in turn, and with which paths, one after another.
 #[derive(Clone, Copy, PartialEq, Eq, Debug)]
 pub struct Places<'a, N> {

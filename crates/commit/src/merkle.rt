@@ -68,7 +68,7 @@ fn levels(positions: usize) -> usize
 }
 
 // A node of the tree: how many positions its level has, its index among them, and its digest.
-#[derive(Clone, Copy)]
+#[derive(Clone, Copy, PartialEq, Eq, Debug)]
 struct TreeNode {
     positions: usize,
     index: usize,
@@ -99,14 +99,9 @@ impl TreeNode {
 fn climbs(root: &[u8; 32], leaf: TreeNode, path: &[[u8; 32]]) -> bool
     ensures { result ≡ climbs root.now leaf.positions leaf.index leaf.digest path.now }
 {
-    let mut top = leaf;
-    for sibling in path {
-        let Some(parent) = top.parent(sibling) else {
-            return false;
-        };
-        top = parent;
-    }
-    top.is_root(root)
+    path.iter()
+        .try_fold(leaf, |node, sibling| node.parent(sibling))
+        .is_some_and(|top| top.is_root(root))
 }
 
 impl<F: BaseField> OpeningScheme<F> for Merkle<F> {
@@ -128,20 +123,16 @@ impl<F: BaseField> OpeningScheme<F> for Merkle<F> {
     ) -> bool {
         let height = levels(places.positions);
         let count = places.indices.len();
-        if !rows.count_is(count) || !view::fits(places.paths.len(), count, height) {
-            return false;
-        }
-        for (k, index) in places.indices.iter().enumerate() {
-            let leaf = TreeNode {
-                positions: places.positions,
-                index: *index,
-                digest: leaf(rows, k),
-            };
-            if !climbs(commitment, leaf, view::piece(places.paths, height, k)) {
-                return false;
-            }
-        }
-        true
+        rows.count_is(count)
+            && view::fits(places.paths.len(), count, height)
+            && places.indices.iter().enumerate().all(|(k, index)| {
+                let leaf = TreeNode {
+                    positions: places.positions,
+                    index: *index,
+                    digest: leaf(rows, k),
+                };
+                climbs(commitment, leaf, view::piece(places.paths, height, k))
+            })
     }
 
     fn commitment_bytes(&self, commitment: &[u8; 32]) -> ArrayVec<u8, 32> {

@@ -6,7 +6,8 @@ use crate::{Rows, Sink};
 use field::{ExtensionField, Field};
 use std::marker::PhantomData;
 
-// Kept: rows are lent in one flat slice with their width, since nothing is allocated while an opening is checked.
+// Kept: rows are lent in one flat slice with their width: a list of slices, one for each row, would have to be gathered first, and
+// nothing is allocated while an opening is checked.
 /// Rows that stand one after another in a slice.
 #[derive(Clone, Copy, PartialEq, Eq, Debug)]
 pub struct Flat<'a, X> {
@@ -69,7 +70,8 @@ impl<F: Field, E: ExtensionField<F>, K: Sink<F>> Sink<E> for Spreading<F, E, K> 
     ghost fed = { λ s es t. (k : K) (xs : List F) → K.Sink.fed k xs s.sink → K.Sink.fed k (xs ++ spread E.ExtensionField.extension es) t.sink };
 
     fn put(&mut self, element: E) {
-        // Kept: an element answers its coefficients one at a time, so an iterator over them would map the same range.
+        // Kept: a loop over the range; of a sink that the closure of `for_each` changes nothing is known after it, and `fold` would have to
+        // move the sink out of `self`.
         for j in 0..E::degree() {
             self.sink.put(element.coefficient(j));
         }

@@ -1,4 +1,4 @@
-//! A stored line: what its opening has to get, the kind of its scheme, and the numbers after, taken from the front.
+//! A stored line: the kind of its scheme, and the numbers after, taken from the front.
 use commit::shelf::Shelf;
 use field::{BaseField, ExtensionField, Field};
 use std::alloc::Global;
@@ -10,9 +10,9 @@ pub enum Kind {
     Kept,
 }
 
-impl Kind {
-    /// The kind of a line: a tree, unless it begins with `kept`.
-    pub fn of(line: &str) -> Kind {
+/// The kind of a line: a tree, unless it begins with `kept`.
+impl<'a> From<&'a str> for Kind {
+    fn from(line: &'a str) -> Kind {
         if line.starts_with("kept") {
             Kind::Kept
         } else {
@@ -21,19 +21,25 @@ impl Kind {
     }
 }
 
-/// The numbers of a line that are not read yet. Past the last there are zeros, and lists are shorter.
-#[derive(Clone, Copy)]
+/// A line: the kind of its scheme, and its numbers that are not read yet. Past the last there are zeros, and lists are shorter.
+#[derive(Clone, Copy, PartialEq, Eq, Debug)]
 pub struct Line<'a> {
     heap: Global,
+    kind: Kind,
     rest: &'a [u32],
 }
 
 impl<'a> Line<'a> {
-    pub fn new(heap: Global, numbers: &'a [u32]) -> Self {
+    pub fn new(heap: Global, kind: Kind, numbers: &'a [u32]) -> Self {
         Line {
             heap,
+            kind,
             rest: numbers,
         }
+    }
+
+    pub fn kind(&self) -> Kind {
+        self.kind
     }
 
     /// The next so many numbers, or as many as are left.
@@ -65,11 +71,11 @@ impl<'a> Line<'a> {
         &self,
         coefficients: &[u32],
     ) -> anyhow::Result<Vec<E>> {
-        let mut elements = Vec::new(self.heap);
-        for numbers in coefficients.chunks_exact(E::degree()) {
-            elements.push(element::<F, E>(numbers))?;
-        }
-        Ok(elements)
+        // Kept: a closure, since the check does not cover a call of `map` with a generic function by its name.
+        let elements = coefficients
+            .chunks_exact(E::degree())
+            .map(|numbers| element::<F, E>(numbers));
+        Ok(elements.collect(self.heap)?)
     }
 
     /// The elements with as many coefficients as the next number says.
@@ -108,11 +114,12 @@ impl<'a> Line<'a> {
 
 // The element with these coefficients, each modulo the modulus.
 fn element<F: BaseField, E: ExtensionField<F>>(coefficients: &[u32]) -> E {
-    let mut element = E::zero();
-    for (j, number) in coefficients.iter().enumerate() {
-        element = element.with_coefficient(j, F::from_word(*number));
-    }
-    element
+    coefficients
+        .iter()
+        .enumerate()
+        .fold(E::zero(), |element, (j, number)| {
+            element.with_coefficient(j, F::from_word(*number))
+        })
 }
 
 // The bytes of eight words; of fewer, with zeros after.

@@ -12,11 +12,12 @@ use field::pair::Pair;
 use field::residue::Residue;
 use field::{BaseField, ExtensionField};
 use line::{Kind, Line};
+use std::alloc::Global;
 
 mod line;
 
 // An opening of rows of X, but for the scheme's own parts.
-#[derive(Drop)]
+#[derive(PartialEq, Eq, Debug, Drop)]
 struct Opening<X: Copy> {
     width: usize,
     positions: usize,
@@ -50,7 +51,7 @@ fn read_opening<F: BaseField, E: ExtensionField<F>>(line: &mut Line) -> anyhow::
     })
 }
 
-// The answer of the scheme's kind to an opening of rows of E, read as coefficients.
+// The answer of a tree to an opening of rows of E, read as coefficients.
 fn tree<F: BaseField, E: ExtensionField<F>>(line: &mut Line) -> anyhow::Result<bool> {
     let opening = read_opening::<F, E>(line)?;
     let root = line.digest();
@@ -61,6 +62,7 @@ fn tree<F: BaseField, E: ExtensionField<F>>(line: &mut Line) -> anyhow::Result<b
     Ok(check_opening(&scheme, &root, &places, &opening.rows()))
 }
 
+// The answer of kept tables to an opening of rows of E, read as coefficients.
 fn kept<F: BaseField, E: ExtensionField<F>>(line: &mut Line) -> anyhow::Result<bool> {
     let opening = read_opening::<F, E>(line)?;
     let number = line.one();
@@ -76,23 +78,23 @@ fn kept<F: BaseField, E: ExtensionField<F>>(line: &mut Line) -> anyhow::Result<b
 }
 
 // Kept: a match on the kind of a line, one arm each, says what is compared; a closure for each kind would say no more.
-fn answer<F: BaseField, E: ExtensionField<F>>(kind: Kind, line: &mut Line) -> anyhow::Result<bool> {
-    match kind {
+fn answer<F: BaseField, E: ExtensionField<F>>(line: &mut Line) -> anyhow::Result<bool> {
+    match line.kind() {
         Kind::Tree => tree::<F, E>(line),
         Kind::Kept => kept::<F, E>(line),
     }
 }
 
-fn answer_over<F: BaseField>(kind: Kind, line: &mut Line) -> anyhow::Result<bool> {
+fn answer_over<F: BaseField>(line: &mut Line) -> anyhow::Result<bool> {
     match line.one() {
-        1 => answer::<F, F>(kind, line),
-        2 => answer::<F, Pair<F>>(kind, line),
-        4 => answer::<F, Pair<Pair<F>>>(kind, line),
-        _ => answer::<F, Pair<Pair<Pair<F>>>>(kind, line),
+        1 => answer::<F, F>(line),
+        2 => answer::<F, Pair<F>>(line),
+        4 => answer::<F, Pair<Pair<F>>>(line),
+        _ => answer::<F, Pair<Pair<Pair<F>>>>(line),
     }
 }
 
-#[derive(Clone, Copy, Default)]
+#[derive(Clone, Copy, PartialEq, Eq, Debug, Default)]
 struct Tally {
     accepted: u32,
     refused: u32,
@@ -110,14 +112,20 @@ impl Tally {
     }
 }
 
-fn replay(kind: Kind, line: &mut Line, tally: &mut Tally) -> anyhow::Result<()> {
+fn replay(line: &mut Line, tally: &mut Tally) -> anyhow::Result<()> {
     let due = line.one() == 1;
     let got = match line.one() {
-        257 => answer_over::<Residue<257>>(kind, line)?,
-        _ => answer_over::<Residue<65537>>(kind, line)?,
+        257 => answer_over::<Residue<257>>(line)?,
+        _ => answer_over::<Residue<65537>>(line)?,
     };
     tally.count(due, got);
     Ok(())
+}
+
+// The numbers after the first word of a line.
+fn numbers(heap: Global, line: &str) -> anyhow::Result<Vec<u32>> {
+    let words = line.split_whitespace().skip(1);
+    words.map(|word| Ok(word.parse::<u32>()?)).try_collect(heap)
 }
 
 // Kept: each program of stored lines counts them by itself, since which lines count and what is printed differ.
@@ -125,15 +133,9 @@ fn run(rt: &HostRuntime) -> anyhow::Result<()> {
     let mut tally = Tally::default();
     for line in rt.lines(rt.alloc()) {
         let line = line?;
-        let mut numbers = Vec::new(rt.alloc());
-        for word in line.split_whitespace().skip(1) {
-            numbers.push(word.parse::<u32>()?)?;
-        }
-        replay(
-            Kind::of(&line),
-            &mut Line::new(rt.alloc(), numbers.as_slice()),
-            &mut tally,
-        )?;
+        let numbers = numbers(rt.alloc(), &line)?;
+        let mut line = Line::new(rt.alloc(), Kind::from(line.as_str()), numbers.as_slice());
+        replay(&mut line, &mut tally)?;
     }
     let Tally {
         accepted,
@@ -144,7 +146,8 @@ fn run(rt: &HostRuntime) -> anyhow::Result<()> {
     Ok(())
 }
 
-// The bytes that the shelf number 16909060, in hexadecimal 01020304, is observed as, at the front of a buffer of nines.
+// The bytes that the shelf number 16909060, in hexadecimal 01020304, is observed as. Six numbers are printed, with a nine for each
+// byte that is not there: the two nines show that these four bytes are all.
 fn show_shelf_number(rt: &HostRuntime) -> anyhow::Result<()> {
     let tables = KeptTables::<Residue<257>> {
         values: &[],
@@ -153,7 +156,7 @@ fn show_shelf_number(rt: &HostRuntime) -> anyhow::Result<()> {
     let bytes = tables.commitment_bytes(&16909060);
     let count = bytes.len();
     print!(rt; "{count} bytes:")?;
-    for byte in bytes.iter().chain(&[9; 32]).take(6) {
+    for byte in bytes.iter().chain(&[9; 6]).take(6) {
         print!(rt; " {byte}")?;
     }
     println!(rt; "")?;

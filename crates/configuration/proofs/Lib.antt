@@ -1,3 +1,4 @@
+pub mod Equal
 pub mod Walks
 pub mod Rounds
 pub mod Phased

@@ -1,7 +1,7 @@
 -- Numbers of the rounds, and what is left of the variables.
 use Rattle.std.proofs.Common.{◌≡◌, ℕ, ◌+◌, ◌-◌, ◌^◌, ◌<◌, ◌≤◌, min, Bool, true, false, cond, ◌&&◌, eqb, leb, ltb, List, [], ◌∷◌, map, length, get_or, Some, None, sum, Option, sym, ap, ◌∙◌, ⊎_elim, arith}
 use Rattle.std.proofs.Math.Nat.{pow-le-pow_right}
-use Rattle.std.proofs.lemmas.List.{get_or-map, get_or_past, length-map, take_all}
+use Rattle.std.proofs.lemmas.List.{get_or-map, take_all}
 use Rattle.std.proofs.lemmas.Bool.{and_parts, and_left, and_right, leb-true, lt-ltb, eq-eqb, ne_eqb, cond-true, cases_lt}
 use Rattle.configuration.specs.Numbers.{Numbers}
 use Rattle.configuration.specs.Phases.{left, domain_fits, every, log_domain, same, consistent, rates_agree, phase_agrees, round_agrees}

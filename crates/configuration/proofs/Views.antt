@@ -1,16 +1,15 @@
 -- Facts of a checked configuration that its accessors rest on.
-use Rattle.std.proofs.Common.{◌≡◌, ℕ, suc, ◌+◌, ◌-◌, ◌*◌, ◌%◌, ◌^◌, ◌<◌, ◌≤◌, min, true, not, ◌&&◌, ltb, leb, List, [], ◌∷◌, length, get_or, take, is_some, is_ok, Some, None, Ok, Err, sum, Option, Result, option_map, MatchOption, unwrap_or, mod-eq_of_lt, one-mul, sym, refl, ap, ◌∙◌, subst, ⊎_elim, add-one, arith}
+use Rattle.std.proofs.Common.{◌≡◌, ℕ, suc, ◌+◌, ◌-◌, ◌*◌, ◌%◌, ◌^◌, ◌<◌, ◌≤◌, min, true, not, ◌&&◌, ltb, leb, List, [], ◌∷◌, length, get_or, take, is_some, is_ok, Some, None, Ok, Err, sum, Option, Result, option_map, MatchOption, mod-eq_of_lt, one-mul, sym, refl, ap, ◌∙◌, subst, ⊎_elim, arith}
 use Rattle.std.specs.List.{slice_get}
 use Rattle.std.proofs.lemmas.List.{take_all}
 use Rattle.std.proofs.lemmas.List.Sums.{sum_by-take-le}
 use Rattle.std.proofs.lemmas.List.FromFn.{get_or-map-range_with_len, length-map-range_with_len}
-use Rattle.std.proofs.lemmas.Option.{slice_get-get_or, unwrap_or-slice_get}
+use Rattle.std.proofs.lemmas.Option.{slice_get-get_or}
 use Rattle.std.proofs.lemmas.Iterator.Adapters.{option_map_id}
 use Rattle.std.proofs.lemmas.Iterator.Consumers.{nth_from_yields_List, YieldsList-from_first}
 use Rattle.std.proofs.lemmas.Nat.{pow_below}
 use Rattle.std.specs.Iterator.{YieldsThen, YieldsFirst}
 use Rattle.std.proofs.lemmas.Bool.{and_parts, leb-true, cond-true, lt-ltb, cases_lt}
-use Rattle.configuration.specs.declared.whir_parameters.RoundConfig.{RoundConfig}
 use Rattle.parameters.specs.Refusals.{Refusal}
 use Rattle.configuration.specs.Numbers.{Numbers}
 use Rattle.configuration.specs.Limits.{within_limits, sizes_within, difficulties_within, others_within, at_most, factors_of}
@@ -18,10 +17,10 @@ use Rattle.configuration.specs.declared.whir_parameters.SecurityAssumption.{Secu
 use Rattle.configuration.specs.declared.whir_parameters.UnknownSoundness.{UnknownSoundness}
 use Rattle.configuration.specs.declared.walk.PhaseNumbers.{PhaseNumbers}
 use Rattle.configuration.specs.declared.walk.Phases.{Phases}
-use Rattle.configuration.specs.Phases.{left, rate, factor}
+use Rattle.configuration.specs.Phases.{rate, factor}
 use Rattle.configuration.specs.Walk.{phase_at, phases, phases_left}
 use Rattle.configuration.specs.Verdicts.{fault, flawless, Phased}
-use Rattle.configuration.specs.Views.{NamesKind, reduction, final_round}
+use Rattle.configuration.specs.Views.{NamesKind, reduction}
 use Rattle.configuration.proofs.Walks.{domain_there}
 use Rattle.configuration.proofs.Phased.{checked, phased}
 
@@ -94,30 +93,31 @@ folded_through N i up flaw e =
     (λ h. take_all up N.stored (omega arith) ∙ sym (take_all (i + 1) N.stored (omega arith)))
     (cases_lt i 18446744073709551615)
 
--- the final phase
-final_phase : (N : Numbers) (r : Option PhaseNumbers) (n : ℕ) → flawless N ≡ true → n ≡ length N.rounds
-    → option_map (λ p. p) r ≡ slice_get (phases N N.stored) n → r ≡ Some (phase_at N N.stored (length N.rounds))
-final_phase N r n flaw m e =
+-- a phase by its place
+phase_by_place : (N : Numbers) (r : Option PhaseNumbers) (n : ℕ) → flawless N ≡ true → n ≤ length N.rounds
+    → option_map (λ p. p) r ≡ slice_get (phases N N.stored) n → r ≡ Some (phase_at N N.stored n)
+phase_by_place N r n flaw m e =
     let few = (in_order N flaw).rounds_so in
     let short : n < length N.stored = omega (arith, few) in
     let count = length-map-range_with_len (phase_at N N.stored) 0 (length N.stored) in
     let at = phase_at N N.stored n in
     sym (option_map_id r) ∙ e ∙ slice_get-get_or (phases N N.stored) n at (omega (arith, count))
     ∙ ap Some (get_or-map-range_with_len (phase_at N N.stored) 0 (length N.stored) n n at short (omega arith))
-    ∙ ap (λ k. Some (phase_at N N.stored k)) m
 
--- the item that the iterator gives after as many phases as there are rounds
-pub final_nth : (N : Numbers) (s : Phases) (r : Option PhaseNumbers) (u : Phases) (n : ℕ) → flawless N ≡ true → phases_left s ≡ phases N N.stored
-    → n ≡ length N.rounds
+-- the item that the iterator gives after so many others, no more than there are rounds
+pub phase_nth : (N : Numbers) (s : Phases) (r : Option PhaseNumbers) (u : Phases) (i m n : ℕ) → flawless N ≡ true → phases_left s ≡ phases N N.stored
+    → m ≡ length N.rounds → n ≡ min i m
     → (xs : List PhaseNumbers) × YieldsThen (YieldsFirst phases_left) s xs r u × MatchOption r (length xs ≤ n) (λ _. length xs ≡ n)
-    → r ≡ Some (phase_at N N.stored (length N.rounds))
-final_nth N s r u n flaw all m ran =
-    final_phase N r n flaw m (nth_from_yields_List r u n ran (YieldsList-from_first (λ p. p) phases_left {s = s} (phases N N.stored) all))
+    → r ≡ Some (phase_at N N.stored (min i (length N.rounds)))
+phase_nth N s r u i m n flaw all k h ran =
+    let place : n ≡ min i (length N.rounds) = omega (arith, k, h) in
+    phase_by_place N r n flaw (omega (arith, place)) (nth_from_yields_List r u n ran (YieldsList-from_first (λ p. p) phases_left {s = s} (phases N N.stored) all))
+    ∙ ap (λ k. Some (phase_at N N.stored k)) place
 
 -- what was read of it
-pub final_last : (N : Numbers) (r : Option PhaseNumbers) (p : PhaseNumbers) → r ≡ Some (phase_at N N.stored (length N.rounds)) → r ≡ Some p
-    → p ≡ phase_at N N.stored (length N.rounds)
-final_last N r p e s = cc
+pub phase_read : (N : Numbers) (r : Option PhaseNumbers) (p : PhaseNumbers) (n : ℕ) → r ≡ Some (phase_at N N.stored n) → r ≡ Some p
+    → p ≡ phase_at N N.stored n
+phase_read N r p n e s = cc
 
 -- the power of a small log
 pub shifted : (k : ℕ) → k < 64 → (1 * 2 ^ k) % 18446744073709551616 ≡ 2 ^ k
@@ -137,28 +137,7 @@ pub phase_there : (N : Numbers) → flawless N ≡ true → (p : PhaseNumbers) (
     → p.variables + p.rate ≤ 16
 phase_there N flaw = domain_there N N.stored (λ i h. (phase_small N i flaw h).domain)
 
-pub final_small : (N : Numbers) (p : PhaseNumbers) → flawless N ≡ true → p ≡ phase_at N N.stored (length N.rounds) → SmallPhase p
-final_small N p flaw e =
+pub small_at : (N : Numbers) (p : PhaseNumbers) (i : ℕ) → flawless N ≡ true → p ≡ phase_at N N.stored (min i (length N.rounds)) → SmallPhase p
+small_at N p i flaw e =
     let few = (in_order N flaw).rounds_so in
-    subst SmallPhase (sym e) (phase_small N (length N.rounds) flaw (omega (arith, few)))
-
-abbrev pub round_from : (N : Numbers) → PhaseNumbers → ℕ → RoundConfig
-round_from N p size = record {
-  pow_bits = N.terminal.pow_bits;
-  folding_pow_bits = N.final_difficulty;
-  num_queries = N.terminal.num_queries;
-  ood_samples = 0;
-  num_variables = p.variables - p.factor;
-  folding_factor = p.factor;
-  log_inv_rate = p.rate;
-  domain_size = size;
-  log_folded_domain_size = p.variables + p.rate - p.factor;
-}
-
-final_as : (N : Numbers) → flawless N ≡ true → let p = phase_at N N.stored (length N.rounds) in round_from N p (2 ^ (p.variables + p.rate)) ≡ final_round N
-final_as N flaw =
-    let ph = in_order N flaw in
-    let m = length N.rounds in
-    let next = ph.next_left m (omega (arith, ph.rounds_so)) in
-    let v : left N N.stored m - factor N.stored m ≡ left N N.stored (m + 1) = rw add-one (omega (arith, next)) in
-    cc
+    subst SmallPhase (sym e) (phase_small N (min i (length N.rounds)) flaw (omega (arith, few)))

@@ -1,16 +1,25 @@
 -- The phases in turn, and tests over all of them.
-use Rattle.std.proofs.Common.{◌≡◌, ℕ, zero, suc, ◌+◌, ◌-◌, ◌<◌, ◌≤◌, Bool, true, false, ◌&&◌, eqb, List, [], ◌∷◌, map, length, get_or, take, drop, zip, sum, sym, refl, ap, ◌∙◌, subst, ⊎_elim, add-one, arith}
+use Rattle.std.proofs.Common.{◌≡◌, ℕ, zero, suc, ◌+◌, ◌-◌, ◌<◌, ◌≤◌, Bool, true, false, cond, ◌&&◌, eqb, leb, List, [], ◌∷◌, map, length, get_or, take, drop, sum, sym, refl, ap, ◌∙◌, subst, ⊎_elim, add-one, arith}
 use Rattle.std.specs.List.{range_with_len, list_all}
 use Rattle.std.proofs.lemmas.List.FromFn.{fill_by_all, get_or-map-range_with_len, length-map-range_with_len, map-range_with_len_more}
 use Rattle.std.proofs.lemmas.List.Folds.{list_all-append}
 use Rattle.std.proofs.lemmas.List.Sums.{sum_by-cons}
 use Rattle.std.proofs.lemmas.Slice.Zip.{length-zip, get_or-zip}
-use Rattle.std.proofs.lemmas.Bool.{and_parts, and_right, cases_eq}
+use Rattle.std.proofs.lemmas.Bool.{and_parts, cases_eq, cond-true, le-leb}
+use Rattle.std.specs.declared.iter.Zip.{Zip}
+use Rattle.std.specs.declared.slice.Iter.{Iter}
+use Rattle.std.specs.Iterator.{YieldsFirst}
+use Rattle.std.specs.Iterator.Adapters.{zip_first, zip_second}
+use Rattle.std.specs.Slice.Iter.{iter_rest}
+use Rattle.std.proofs.iter.Yields.{fronts}
+use Rattle.std.proofs.lemmas.Iterator.{YieldsList, YieldsList-from_slice, YieldsList-from_zip, zips}
+use Rattle.std.proofs.lemmas.Iterator.Consumers.{YieldsList-from_first}
 use Rattle.configuration.specs.declared.whir_parameters.RoundConfig.{RoundConfig}
 use Rattle.configuration.specs.declared.walk.PhaseNumbers.{PhaseNumbers}
+use Rattle.configuration.specs.declared.walk.Phases.{Phases}
 use Rattle.configuration.specs.Numbers.{Numbers}
-use Rattle.configuration.specs.Phases.{same, every, rate, rates_of, queries_of, factor, log_domain, no_round, round_at, phase_agrees, rate_follows}
-use Rattle.configuration.specs.Walk.{phase_at, phases, paired, pair_agrees, pair_follows, phases_from}
+use Rattle.configuration.specs.Phases.{every, rate, rates_of, queries_of, factor, log_domain, no_round, round_at, phase_agrees, rate_follows, rows_at, opening_within}
+use Rattle.configuration.specs.Walk.{phase_at, phases, paired, pair_agrees, pair_follows, phases_from, phases_left}
 
 -- ---- a test over the numbers below a bound
 pub every_at : (test : ℕ → Bool) (n i : ℕ) → every n test ≡ true → i < n → test i ≡ true
@@ -20,10 +29,11 @@ every_at test (suc n) i e h =
     let parts = and_parts (every n test) (test n) e in
     ⊎_elim (λ q. ap test q ∙ parts.1) (λ ne. every_at test n i parts.0 (omega (arith, ne))) (cases_eq i n)
 
-every_same : (n : ℕ) (s t : ℕ → Bool) → ((i : ℕ) → s i ≡ t i) → every n s ≡ every n t
+every_same : (n : ℕ) (s t : ℕ → Bool) → ((i : ℕ) → i < n → s i ≡ t i) → every n s ≡ every n t
 unfolding every
 every_same zero s t h = refl
-every_same (suc n) s t h = ap (λ b. b && s n) (every_same n s t h) ∙ ap (λ b. every n t && b) (h n)
+every_same (suc n) s t h =
+    ap (λ b. b && s n) (every_same n s t (λ i k. h i (omega (arith, k)))) ∙ ap (λ b. every n t && b) (h n (omega arith))
 
 and_true : (b : Bool) → (b && true) ≡ b
 and_true true = refl
@@ -95,6 +105,17 @@ domain_there N ks small p i h e =
     let there : p ≡ phase_at N ks i = e ∙ get_or-map-range_with_len (phase_at N ks) 0 (length ks) i i p short (omega arith) in
     subst (λ (x : PhaseNumbers). x.variables + x.rate ≤ 16) (sym there) (small i short)
 
+-- a phase that has positions, folds few variables and opens few rows
+abbrev pub opens_few : PhaseNumbers → Bool
+opens_few p = cond (leb (p.variables + p.rate) 16) (leb p.factor 10 && leb (rows_at (p.variables + p.rate - p.factor) p.queries) 1024) false
+
+pub few_each : (N : Numbers) (ks : List ℕ) → ((i : ℕ) → i < length ks → log_domain N ks i ≤ 16)
+    → list_all opens_few (phases N ks) ≡ every (length ks) (opening_within N ks)
+few_each N ks small =
+    list_all-every opens_few (phase_at N ks) (length ks)
+    ∙ every_same (length ks) (λ i. opens_few (phase_at N ks i)) (opening_within N ks)
+    (λ i h. cond-true (leb (log_domain N ks i) 16) _ _ (le-leb _ _ (small i h)))
+
 -- ---- each round with its phase
 pair_at : Numbers → List ℕ → ℕ → PhaseNumbers × RoundConfig
 pair_at N ks i = (phase_at N ks i, round_at N i)
@@ -122,18 +143,10 @@ unfolding pair_at
 follow_each N ks h =
     ap (list_all pair_follows) (paired_all N ks h) ∙ list_all-every pair_follows (pair_at N ks) (length N.rounds)
     ∙ every_same (length N.rounds) (λ i. pair_follows (pair_at N ks i)) (rate_follows N ks)
-    (λ i. ap (λ x. eqb x (rate N i + factor ks i - 1)) (sym (rate_there N.rounds i)))
+    (λ i h. ap (λ x. eqb x (rate N i + factor ks i - 1)) (sym (rate_there N.rounds i)))
 
--- ---- the listed rates beside the rounds
-pub listed_same : (xs : List ℕ) (rs : List RoundConfig) → length xs ≡ length rs
-    → list_all (λ (p : ℕ × RoundConfig). eqb p.0 p.1.log_inv_rate) (zip xs rs) ≡ same xs (rates_of rs)
-listed_same [] [] h = refl
-listed_same [] (r ∷ rs) h = absurd (omega arith)
-listed_same (x ∷ xs) [] h = absurd (omega arith)
-listed_same (x ∷ xs) (r ∷ rs) h = ap (λ b. eqb x r.log_inv_rate && b) (listed_same xs rs (omega arith))
-
-pub listed_apart : (xs : List ℕ) (rs : List RoundConfig) → (length xs ≡ length rs → ⊥) → false ≡ same xs (rates_of rs)
-listed_apart [] [] h = absurd (h refl)
-listed_apart [] (r ∷ rs) h = refl
-listed_apart (x ∷ xs) [] h = refl
-listed_apart (x ∷ xs) (r ∷ rs) h = sym (and_right (eqb x r.log_inv_rate) _ (sym (listed_apart xs rs (λ e. h (ap suc e)))))
+-- what goes over the rounds with their phases gives each pair
+pub YieldsList-from_paired : {s : Zip Phases (Iter RoundConfig)} (N : Numbers) (ks : List ℕ) → phases_left (zip_first s) ≡ phases N ks
+    → iter_rest (zip_second s) ≡ N.rounds → YieldsList (zips (YieldsFirst phases_left) fronts) (λ p. (p.0, p.1.now)) s (paired N ks)
+YieldsList-from_paired {s} N ks e h =
+    YieldsList-from_zip (YieldsList-from_first (λ p. p) phases_left {s = zip_first s} (phases N ks) e) (YieldsList-from_slice {s = zip_second s} N.rounds h)

@@ -1,5 +1,5 @@
 -- The phases of a run: what is left before each, its rate, its positions, and when the numbers belong together.
-use Rattle.std.specs.Prelude.{ℕ, zero, suc, ◌+◌, ◌-◌, ◌^◌, Bool, true, cond, ◌&&◌, ◌||◌, List, map, length, take, sum, ◌==◌, nat_le, slice_index, slice_index_or}
+use Rattle.std.specs.Prelude.{ℕ, zero, suc, ◌+◌, ◌-◌, ◌^◌, Bool, true, cond, ◌&&◌, ◌||◌, List, map, length, take, sum, ◌==◌, nat_le, slice_index, slice_index_or, Some, None, Option}
 use Rattle.std.specs.Cmp.Lexicographic.{pointwise}
 use Rattle.configuration.specs.Numbers.{Numbers}
 use Rattle.configuration.specs.declared.whir_parameters.RoundConfig.{RoundConfig}
@@ -94,10 +94,15 @@ consistent N ks =
 abbrev pub query_draws : ℕ → ℕ → ℕ
 query_draws positions queries = cond (nat_le positions queries) 0 queries
 
--- Queries of phase i: those of round i, and of the final phase.
+-- Draws where there are any. Where nothing is drawn, every position opens.
+abbrev pub drawn : ℕ → Option ℕ
+drawn draws = cond (draws == 0) None (Some draws)
+
+-- Queries of the rounds, in turn.
 abbrev pub queries_of : List RoundConfig → List ℕ
 queries_of rs = map (λ (r : RoundConfig). r.num_queries) rs
 
+-- Queries of phase i: those of round i, and past the rounds those of the final phase.
 abbrev pub queries : Numbers → ℕ → ℕ
 queries N i = slice_index_or (queries_of N.rounds) i N.terminal.num_queries
 

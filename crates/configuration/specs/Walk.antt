@@ -1,5 +1,5 @@
 -- The phases of a schedule in turn.
-use Rattle.std.specs.Prelude.{ℕ, ◌+◌, ◌-◌, Bool, ◌==◌, List, [], ◌∷◌, map, length, drop, zip, slice_index, slice_index_or}
+use Rattle.std.specs.Prelude.{◌≡◌, ℕ, ◌+◌, ◌-◌, ◌<◌, ◌≤◌, Bool, Some, None, Option, ◌==◌, List, [], ◌∷◌, map, length, drop, zip, slice_index, slice_index_or}
 use Rattle.std.specs.List.{range_with_len}
 use Rattle.std.specs.Slice.Iter.{iter_rest}
 use Rattle.configuration.specs.Numbers.{Numbers}
@@ -7,6 +7,7 @@ use Rattle.configuration.specs.Phases.{left, rate, rates_of, factor, queries, qu
 use Rattle.configuration.specs.declared.whir_parameters.RoundConfig.{RoundConfig}
 use Rattle.configuration.specs.declared.walk.PhaseNumbers.{PhaseNumbers}
 use Rattle.configuration.specs.declared.walk.Phases.{Phases}
+use Rattle.configuration.specs.declared.positions.Positions.{Positions}
 
 -- What is read of phase i.
 abbrev pub phase_at : Numbers → List ℕ → ℕ → PhaseNumbers
@@ -38,3 +39,8 @@ phases_from q l e rs (k ∷ ks) =
 -- The phases that are still to come.
 abbrev pub phases_left : Phases → List PhaseNumbers
 phases_left p = phases_from p.final_queries p.variables p.rate (iter_rest p.rounds) (iter_rest p.factors)
+
+-- The positions of a phase: what its fold leaves of its domain, with its queries. A phase has none whose domain has more than 2 ^ 16 places.
+abbrev pub PositionsOf : PhaseNumbers → Option Positions → Type 0
+PositionsOf p (Some s) = (p.variables + p.rate ≤ 16) × (s.log ≡ p.variables + p.rate - p.factor) × (s.queries ≡ p.queries)
+PositionsOf p None = 16 < p.variables + p.rate

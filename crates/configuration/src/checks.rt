@@ -1,15 +1,20 @@
 // The checks on the numbers of a configuration, one definition each.
-ghost use Rattle.std.specs.Prelude.{◌≡◌, ◌+◌, ◌-◌, ◌^◌, ◌≤◌, true, cond, ◌&&◌, length, Some, None, nat_le, nat_lt, slice_index};
+ghost use Rattle.std.specs.Prelude.{◌≡◌, ◌+◌, ◌^◌, true, cond, length, Some, None, nat_le, nat_lt, slice_index};
+ghost use Rattle.std.specs.Iterator.Adapters.{zip_first, zip_second};
 ghost use Rattle.std.specs.List.{list_all};
+ghost use Rattle.std.specs.Slice.Iter.{iter_rest};
 ghost use Rattle.parameters.specs.Replies.{strategy_of};
 ghost use Rattle.configuration.specs.Numbers.{numbers_of};
 ghost use Rattle.configuration.specs.Limits.{at_most, all_by, factors_of, sizes_within, difficulties_within, others_within, lists_within, round_within, within_limits};
-ghost use Rattle.configuration.specs.Phases.{every, same, rate, rates, rates_of, round_agrees, domain_fits, rates_agree, consistent, query_draws, queries, rows_opened, rows_at, openings_within};
-ghost use Rattle.configuration.specs.Walk.{pair_agrees, pair_follows, paired};
+ghost use Rattle.configuration.specs.Phases.{every, same, rate, rates, rates_of, round_agrees, domain_fits, rates_agree, consistent, drawn, query_draws, queries, openings_within};
+ghost use Rattle.configuration.specs.Walk.{pair_agrees, pair_follows, paired, phases, phases_left};
 
-use crate::walk::PhaseNumbers;
+use crate::positions::Positions;
+use crate::walk::{PhaseNumbers, Phases};
 use crate::whir_parameters::{RoundConfig, SecurityAssumption, WhirNumbers};
 use parameters::folding::{FoldingFactor, variables_left};
+use std::iter::Zip;
+use std::slice::Iter;
 
 // Each of the numbers is at most the bound.
 fn all_at_most(numbers: &[usize], bound: usize) -> bool
@@ -66,33 +71,22 @@ fn rounds_within(rounds: &[RoundConfig]) -> bool
 fn rates_listed(listed: &[usize], rounds: &[RoundConfig]) -> bool
     ensures { result ≡ same listed.now (rates_of rounds.now) }
 {
-    let mut pairs = listed.iter().zip(rounds);
-    listed.len() == rounds.len() && pairs.all(|(rate, round)| *rate == round.log_inv_rate)
+    let rates = rounds.iter().map(|round| round.log_inv_rate);
+    listed.iter().copied().eq(rates)
 }
 
-// How many positions are drawn: none where the queries cover all there are.
-pub fn query_draws(folded_domain_size: usize, num_queries: usize) -> usize
-    ensures { result ≡ query_draws folded_domain_size num_queries }
+// How many positions are drawn; none where every one opens, since the queries cover all there are, or there are none.
+pub fn query_draws(folded_domain_size: usize, num_queries: usize) -> Option<usize>
+    ensures { result ≡ drawn (query_draws folded_domain_size num_queries) }
 {
-    if num_queries >= folded_domain_size {
-        0
-    } else {
-        num_queries
-    }
-}
-
-// Rows that are opened: those drawn, and every one where nothing is drawn.
-pub fn rows_opened(positions: usize, draws: usize) -> usize
-    ensures { result ≡ rows_opened positions draws }
-{
-    if draws == 0 { positions } else { draws }
+    (0 < num_queries && num_queries < folded_domain_size).then_some(num_queries)
 }
 
 // Two to the power, where there is room for it.
 fn power_of_two(log: usize) -> Option<usize>
     ensures { result ≡ cond (nat_lt log 64) (Some (2 ^ log)) None }
 {
-    if log < 64 { Some(1 << log) } else { None }
+    (log < 64).then(|| 1 << log)
 }
 
 impl WhirNumbers {
@@ -165,10 +159,9 @@ impl WhirNumbers {
     pub fn rate_before(&self, phase: usize) -> usize
         ensures { result ≡ rate (numbers_of self.now) phase }
     {
-        match phase.checked_sub(1) {
-            Some(round) => self.rate_after(round),
-            None => self.starting_log_inv_rate,
-        }
+        phase
+            .checked_sub(1)
+            .map_or(self.starting_log_inv_rate, |round| self.rate_after(round))
     }
 
     // Log of the inverse rate after a round; 0 past the last.
@@ -220,16 +213,6 @@ impl PhaseNumbers {
         let allowed = self.rate as u128 + self.factor as u128;
         round.log_inv_rate as u128 == allowed.saturating_sub(1)
     }
-
-    // The phase folds at most 10 variables and opens at most 1,024 rows.
-    fn opens_few(self) -> bool
-        requires { self.variables + self.rate ≤ 16 }
-        ensures { result ≡ (nat_le self.factor 10 && nat_le (rows_at (self.variables + self.rate - self.factor) self.queries) 1024) }
-    {
-        let positions = 1 << (self.variables + self.rate).saturating_sub(self.factor);
-        let rows = rows_opened(positions, query_draws(positions, self.queries));
-        self.factor <= 10 && rows <= 1_024
-    }
 }
 
 // Numbers within their limits, with the schedule of their strategy.
@@ -251,23 +234,28 @@ impl Planned<'_> {
             .all(|phase| phase.fits(capacity))
     }
 
-    // Each round's numbers are those of its phase.
-    fn rounds_agree(&self) -> bool
-        ensures { result ≡ list_all pair_agrees (paired (numbers_of self.now.numbers.now) self.now.schedule.now) }
+    // Each round with its phase.
+    fn paired(&self) -> Zip<Phases<'_>, Iter<'_, RoundConfig>>
+        ensures phases { phases_left (zip_first result) ≡ phases (numbers_of self.now.numbers.now) self.now.schedule.now }
+        ensures rounds { iter_rest (zip_second result) ≡ self.now.numbers.now.round_parameters.items }
     {
         self.numbers
             .phases(self.schedule)
             .zip(&self.numbers.round_parameters)
-            .all(|(phase, round)| phase.agrees(round))
+    }
+
+    // Each round's numbers are those of its phase.
+    fn rounds_agree(&self) -> bool
+        ensures { result ≡ list_all pair_agrees (paired (numbers_of self.now.numbers.now) self.now.schedule.now) }
+    {
+        self.paired().all(|(phase, round)| phase.agrees(round))
     }
 
     // Each rate is one less than its phase's domain allows.
     fn rates_follow(&self) -> bool
         ensures { result ≡ list_all pair_follows (paired (numbers_of self.now.numbers.now) self.now.schedule.now) }
     {
-        self.numbers
-            .phases(self.schedule)
-            .zip(&self.numbers.round_parameters)
+        self.paired()
             .all(|(phase, round)| phase.is_followed_by(round))
     }
 
@@ -303,8 +291,9 @@ impl Planned<'_> {
         requires { consistent (numbers_of self.now.numbers.now) self.now.schedule.now ≡ true }
         ensures { result ≡ openings_within (numbers_of self.now.numbers.now) self.now.schedule.now }
     {
-        self.numbers
-            .phases(self.schedule)
-            .all(|phase| phase.opens_few())
+        self.numbers.phases(self.schedule).all(|phase| {
+            let rows = phase.positions().map(Positions::rows);
+            phase.factor <= 10 && rows.is_some_and(|rows| rows <= 1_024)
+        })
     }
 }

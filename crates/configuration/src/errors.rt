@@ -4,38 +4,29 @@ ghost use Rattle.configuration.specs.Faults.{of_schedule};
 ghost use Rattle.configuration.specs.declared.errors.WhirConfigError.TheVariants.{Folding};
 
 use parameters::errors::{FoldingFactorError, ScheduleError};
-use std::error::Error;
-use std::fmt;
+use thiserror::Error;
 
-#[derive(Clone, Copy, PartialEq, Eq, Debug)]
+// A refusal is read out as its number, its name and its values.
+#[derive(Clone, Copy, PartialEq, Eq, Debug, Error)]
 pub enum WhirConfigError {
     // A number is outside its limits, a factor is above 10, or a phase would open more than 1,024 rows.
+    #[error("1 Limit")]
     Limit,
 
     // The folding factor is incompatible with the polynomial size.
+    #[error("2 Folding {0}")]
     Folding(FoldingFactorError),
 
     // The numbers do not belong together.
+    #[error("3 Inconsistent")]
     Inconsistent,
 
     // There was no memory for the schedule.
+    #[error("out of memory")]
     OutOfMemory,
 }
 
-// A refusal as it is read out: its number, its name and its values.
-impl fmt::Display for WhirConfigError {
-    fn fmt<W: fmt::Write>(&self, f: &mut fmt::Formatter<W>) -> fmt::Result {
-        match self {
-            WhirConfigError::Limit => write!(f, "1 Limit"),
-            WhirConfigError::Folding(fault) => write!(f, "2 Folding {fault}"),
-            WhirConfigError::Inconsistent => write!(f, "3 Inconsistent"),
-            WhirConfigError::OutOfMemory => write!(f, "out of memory"),
-        }
-    }
-}
-
-impl Error for WhirConfigError {}
-
+// Kept: a derived `From` says nothing of the error that it makes; with one here, the clause of the next one was not proved.
 impl From<FoldingFactorError> for WhirConfigError {
     ghost from_gives = { λ e r. r ≡ Folding e };
 

@@ -1,10 +1,12 @@
 // What a checked configuration says of its phases. Nothing here panics: a round that is not there is answered by `None`.
-ghost use Rattle.std.specs.Prelude.{◌≡◌, ◌+◌, ◌^◌, ◌≤◌, length, take, sum};
+ghost use Rattle.std.specs.Prelude.{◌≡◌, ◌+◌, ◌^◌, ◌≤◌, min, length, take, sum};
 ghost use Rattle.std.specs.List.{slice_get};
 ghost use Rattle.configuration.specs.Numbers.{numbers_of};
+ghost use Rattle.configuration.specs.Phases.{log_positions_of, queries};
 ghost use Rattle.configuration.specs.Views.{kind_number, reduction, hardest, final_round};
 ghost use Rattle.configuration.specs.Walk.{phase_at, phases_left, phases};
 
+use crate::positions::Positions;
 use crate::walk::{PhaseNumbers, Phases};
 use crate::whir::WhirConfig;
 use crate::whir_parameters::{ProtocolParameters, RoundConfig, SecurityAssumption};
@@ -103,7 +105,7 @@ impl WhirConfig {
     pub fn final_round_config(&self) -> RoundConfig
         ensures { result ≡ final_round (numbers_of self.now.numbers) }
     {
-        let last = self.final_phase();
+        let last = self.phase(self.n_rounds());
         let log = last.variables + last.rate;
         RoundConfig {
             pow_bits: self.numbers.terminal.pow_bits,
@@ -118,12 +120,20 @@ impl WhirConfig {
         }
     }
 
-    // The final phase: it comes after as many phases as there are rounds.
-    fn final_phase(&self) -> PhaseNumbers
-        ensures phase { result ≡ phase_at (numbers_of self.now.numbers) self.now.numbers.folding_schedule.items (length self.now.numbers.round_parameters.items) }
+    // A phase by its place; one past the last is the last, the final phase, which comes after as many as there are rounds.
+    pub fn phase(&self, phase: usize) -> PhaseNumbers
+        ensures phase { result ≡ phase_at (numbers_of self.now.numbers) self.now.numbers.folding_schedule.items (min phase (length self.now.numbers.round_parameters.items)) }
         ensures domain { result.variables + result.rate ≤ 16 }
         ensures fold { result.factor ≤ result.variables }
     {
-        self.phases().nth(self.n_rounds()).unwrap()
+        self.phases().nth(phase.min(self.n_rounds())).unwrap()
+    }
+
+    // The positions of a phase, by its place.
+    pub fn positions(&self, phase: usize) -> Positions
+        ensures log { result.log ≡ log_positions_of (numbers_of self.now.numbers) self.now.numbers.folding_schedule.items (min phase (length self.now.numbers.round_parameters.items)) }
+        ensures queries { result.queries ≡ queries (numbers_of self.now.numbers) (min phase (length self.now.numbers.round_parameters.items)) }
+    {
+        self.phase(phase).positions().unwrap()
     }
 }

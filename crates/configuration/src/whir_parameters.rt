@@ -1,7 +1,6 @@
 // What a configuration is made of: the numbers as they are given.
 use parameters::folding::FoldingFactor;
-use std::error::Error;
-use std::fmt;
+use thiserror::Error;
 
 // The type of soundness guarantee, by its number: 0, 1 and 2.
 #[derive(Clone, Copy, PartialEq, Eq, Debug)]
@@ -12,7 +11,8 @@ pub enum SecurityAssumption {
 }
 
 // A number that names no soundness guarantee.
-#[derive(Clone, Copy, PartialEq, Eq, Debug)]
+#[derive(Clone, Copy, PartialEq, Eq, Debug, Error)]
+#[error("no soundness guarantee has the number {0}")]
 pub struct UnknownSoundness(pub usize);
 
 impl TryFrom<usize> for SecurityAssumption {
@@ -31,14 +31,6 @@ impl TryFrom<usize> for SecurityAssumption {
         }
     }
 }
-
-impl fmt::Display for UnknownSoundness {
-    fn fmt<W: fmt::Write>(&self, f: &mut fmt::Formatter<W>) -> fmt::Result {
-        write!(f, "no soundness guarantee has the number {}", self.0)
-    }
-}
-
-impl Error for UnknownSoundness {}
 
 // Configuration parameters for WHIR proofs, as a checked configuration shows them.
 #[derive(Clone, Copy, Debug)]

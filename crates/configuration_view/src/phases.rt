@@ -16,7 +16,7 @@ pub struct Phase {
     // Rows that it opens.
     pub rows: usize,
 
-    // Positions that are drawn.
+    // Positions that are drawn, as a number that is shown: 0 where every one opens.
     pub draws: usize,
 }
 

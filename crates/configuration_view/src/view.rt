@@ -1,28 +1,26 @@
 // Working out the phases and the buffers of a checked configuration.
-ghost use Rattle.std.specs.Prelude.{◌≡◌, ◌+◌, ◌≤◌, max, IfOk, fold as folded};
+ghost use Rattle.std.specs.Prelude.{◌≡◌, ◌+◌, ◌-◌, max, IfOk, fold as folded};
 ghost use Rattle.configuration.specs.Numbers.{numbers_of};
 ghost use Rattle.configuration_view.specs.Shown.{phase_from, phases_of, buffers_of, Shows};
 
 use crate::phases::{Buffers, Phase, View};
-use configuration::checks::{query_draws, rows_opened};
+use configuration::positions::Positions;
 use configuration::walk::PhaseNumbers;
 use configuration::whir::WhirConfig;
 use std::alloc::{AllocError, Global};
 
-// A phase as it is shown, from what is read of it.
-fn phase_from(phase: PhaseNumbers) -> Phase
-    requires { phase.variables + phase.rate ≤ 16 }
+// A phase as it is shown, from what is read of it and its positions.
+fn phase_from(phase: PhaseNumbers, positions: Positions) -> Phase
+    requires log { positions.log ≡ phase.variables + phase.rate - phase.factor }
+    requires queries { positions.queries ≡ phase.queries }
     ensures { result ≡ phase_from phase.variables phase.rate phase.factor phase.queries }
 {
-    let log_positions = (phase.variables + phase.rate).saturating_sub(phase.factor);
-    let positions = 1 << log_positions;
-    let draws = query_draws(positions, phase.queries);
     Phase {
         variables: phase.variables,
         rate: phase.rate,
-        log_positions,
-        rows: rows_opened(positions, draws),
-        draws,
+        log_positions: positions.log,
+        rows: positions.rows(),
+        draws: positions.draws().unwrap_or(0),
     }
 }
 
@@ -30,7 +28,10 @@ fn phase_from(phase: PhaseNumbers) -> Phase
 fn phases_of(heap: Global, config: &WhirConfig) -> Result<Vec<Phase>, AllocError>
     ensures { IfOk result (λ v. v.items ≡ phases_of (numbers_of config.now.numbers)) }
 {
-    config.phases().map(phase_from).collect(heap)
+    config
+        .phases()
+        .map(|phase| phase_from(phase, phase.positions().unwrap()))
+        .collect(heap)
 }
 
 // The largest factor of a schedule.

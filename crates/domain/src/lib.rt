@@ -4,7 +4,7 @@
 //! one point of m base elements.
 #![tactic(auto)]
 
-ghost use Rattle.std.specs.Prelude.{◌≡◌, ℕ, ◌^◌, ◌≤◌, Bool, if◌then◌else◌, Ok, Err};
+ghost use Rattle.std.specs.Prelude.{◌≡◌, ℕ, ◌^◌, ◌≤◌, Bool, ◌&&◌, if◌then◌else◌, Ok, Err, nat_lt};
 ghost use Rattle.domain.specs.declared.query.Limit.TheVariants.{OutOfDomain};
 ghost use Rattle.domain.specs.Domains.{Domain, inside, told, coordinate, Lawful};
 
@@ -59,7 +59,8 @@ pub trait WhirDomain<F: BaseField> {
         ensures { result ≡ coordinate F.Field.ops (meaning self.now) log_domain_size num_variables index j };
 
     // The law that joins base, extension and domain.
-    // Kept: a ghost law cannot speak of every extension, whose types are of a larger universe than a law's.
+    // Kept: as a ghost law it has to speak of every extension, `(B : Type 0) (G : Ops B) ..`, which the check refused: "expected type `Type 0`,
+    // but this has type `Type 1`"; a trait with the extension for a parameter would ask each caller for one.
     fn keeps_distance<E: ExtensionField<F>>(&self)
         ensures { Lawful F.Field.ops E.Field.ops E.ExtensionField.extension.embed (meaning self.now) };
 }
@@ -75,6 +76,25 @@ pub(crate) fn require_inside(
     ensures { result ≡ (if inside capacity log m index then Ok tt else Err OutOfDomain) }
 {
     if log <= capacity && m <= log && index < 1 << log {
+        Ok(())
+    } else {
+        Err(Limit::OutOfDomain)
+    }
+}
+
+// Refuses a place at which there is no point, and a coordinate that its point has not.
+pub(crate) fn require_coordinate(
+    capacity: usize,
+    log: usize,
+    m: usize,
+    index: usize,
+    j: usize,
+) -> Result<(), Limit>
+    requires { capacity ≤ 16 }
+    ensures { result ≡ (if inside capacity log m index && nat_lt j m then Ok tt else Err OutOfDomain) }
+{
+    require_inside(capacity, log, m, index)?;
+    if j < m {
         Ok(())
     } else {
         Err(Limit::OutOfDomain)

@@ -6,7 +6,7 @@ ghost use Rattle.domain.specs.Listed.{Listable, listed};
 
 use crate::query::{Limit, WhirQueryPoint};
 use crate::two_adic::coordinate_of;
-use crate::{WhirDomain, require_inside};
+use crate::{WhirDomain, require_coordinate, require_inside};
 use configuration::whir_parameters::SecurityAssumption;
 use field::{BaseField, ExtensionField, Field};
 
@@ -25,9 +25,7 @@ impl<'a, F: BaseField> ListedDomain<'a, F> {
     pub fn new(points: &'a [F]) -> Result<ListedDomain<'a, F>, Limit>
         ensures { MatchResult result (λ d. (d.points.now ≡ points.now) × Listable d.log points.now) (λ e. (e ≡ BadList) × ((c : ℕ) → Listable c points.now → ⊥)) }
     {
-        let Some(log) = log_of_length(points.len()) else {
-            return Err(Limit::BadList);
-        };
+        let log = log_of_length(points.len()).ok_or(Limit::BadList)?;
         if !are_distinct(points) {
             return Err(Limit::BadList);
         }
@@ -83,10 +81,7 @@ impl<'a, F: BaseField> WhirDomain<F> for ListedDomain<'a, F> {
         index: usize,
         j: usize,
     ) -> Result<F, Limit> {
-        require_inside(self.log, log_domain_size, num_variables, index)?;
-        if j >= num_variables {
-            return Err(Limit::OutOfDomain);
-        }
+        require_coordinate(self.log, log_domain_size, num_variables, index, j)?;
         Ok(coordinate_of(self.element(index), num_variables, j))
     }
 
@@ -100,15 +95,8 @@ const MAX_LOG: usize = 12;
 fn log_of_length(count: usize) -> Option<usize>
     ensures { MatchOption result ((c : ℕ) → c ≤ 12 → count ≢ 2 ^ c) (λ c. (c ≤ 12) × (count ≡ 2 ^ c)) }
 {
-    if count == 0 {
-        return None;
-    }
-    let log = count.ilog2() as usize;
-    if log <= MAX_LOG && count == 1 << log {
-        Some(log)
-    } else {
-        None
-    }
+    let log = count.checked_ilog2()? as usize;
+    (log <= MAX_LOG && count == 1 << log).then_some(log)
 }
 
 fn are_distinct<F: Field>(points: &[F]) -> bool

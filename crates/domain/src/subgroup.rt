@@ -6,7 +6,7 @@ ghost use Rattle.domain.specs.Subgroup.{generator, subgroup};
 
 use crate::query::{Limit, WhirQueryPoint};
 use crate::two_adic::{TwoAdicField, coordinate_of, exp, generator_of};
-use crate::{WhirDomain, require_inside};
+use crate::{WhirDomain, require_coordinate, require_inside};
 use configuration::whir_parameters::SecurityAssumption;
 use field::{BaseField, ExtensionField, Field};
 
@@ -51,10 +51,7 @@ impl<F: TwoAdicField> WhirDomain<F> for SubgroupDomain {
         index: usize,
         j: usize,
     ) -> Result<F, Limit> {
-        require_inside(F::two_adicity(), log_domain_size, num_variables, index)?;
-        if j >= num_variables {
-            return Err(Limit::OutOfDomain);
-        }
+        require_coordinate(F::two_adicity(), log_domain_size, num_variables, index, j)?;
         Ok(coordinate_of(element(log_domain_size, index), num_variables, j))
     }
 

@@ -15,9 +15,10 @@ use field::residue::Residue;
 use field::{BaseField, Field};
 use std::alloc::{AllocError, Global};
 use std::str::FromStr;
+use thiserror::Error;
 
 // What a line asks of a domain.
-#[derive(Clone, Copy)]
+#[derive(Clone, Copy, Debug, PartialEq, Eq)]
 enum Kind {
     Capacity,
     Position,
@@ -28,7 +29,8 @@ enum Kind {
 }
 
 // A word that is no kind.
-#[derive(Clone, Copy, Debug)]
+#[derive(Clone, Copy, Debug, PartialEq, Eq, Error)]
+#[error("the line has no kind")]
 struct UnknownKind;
 
 impl FromStr for Kind {
@@ -48,7 +50,7 @@ impl FromStr for Kind {
 }
 
 // A queried position, with the number of variables of its point.
-#[derive(Clone, Copy)]
+#[derive(Clone, Copy, Debug, PartialEq, Eq)]
 struct Place {
     log: usize,
     m: usize,
@@ -66,7 +68,7 @@ impl Place {
 }
 
 // What a domain says of itself.
-#[derive(Clone, Copy)]
+#[derive(Clone, Copy, Debug, PartialEq, Eq)]
 struct Traits {
     capacity: u32,
     id: &'static [u8],
@@ -177,11 +179,13 @@ fn element_agrees<F: BaseField>(list: &[F], place: Place, want: &[u32]) -> bool 
 }
 
 fn repeat_agrees<F: BaseField>(list: &mut [F], i: u32, j: u32) -> bool {
-    let (i, j) = (i as usize, j as usize);
-    if i >= list.len() || j >= list.len() {
+    let Some(x) = list.get(i as usize).copied() else {
         return false;
-    }
-    list[j] = list[i];
+    };
+    let Some(place) = list.get_mut(j as usize) else {
+        return false;
+    };
+    *place = x;
     list_agrees(list, &[0])
 }
 
@@ -210,11 +214,24 @@ fn agrees<F: TwoAdicField>(heap: Global, kind: Kind, numbers: &[u32]) -> anyhow:
     })
 }
 
-fn line_agrees(heap: Global, kind: Kind, line: &[u32]) -> anyhow::Result<bool> {
-    match line {
+fn case_agrees(heap: Global, kind: Kind, numbers: &[u32]) -> anyhow::Result<bool> {
+    match numbers {
         [257, numbers @ ..] => agrees::<Residue<257>>(heap, kind, numbers),
         [65537, numbers @ ..] => agrees::<Residue<65537>>(heap, kind, numbers),
         _ => Ok(false),
+    }
+}
+
+// Whether a line's answer is ours; a line with no kind has none.
+fn line_agrees(heap: Global, line: &str) -> anyhow::Result<bool> {
+    let mut words = line.split_whitespace();
+    let kind = words.next().unwrap_or("").parse::<Kind>();
+    let numbers: Vec<u32> = words
+        .map(|word| -> anyhow::Result<u32> { Ok(word.parse::<u32>()?) })
+        .try_collect(heap)?;
+    match kind {
+        Ok(kind) => case_agrees(heap, kind, &numbers),
+        Err(UnknownKind) => Ok(false),
     }
 }
 
@@ -224,18 +241,8 @@ fn main(rt: HostRuntime) -> anyhow::Result<()> {
     let mut agree = 0u64;
     for line in rt.lines(rt.alloc()) {
         let line = line?;
-        let mut words = line.split_whitespace();
-        let kind = words.next().unwrap_or("").parse::<Kind>();
-        let mut numbers = Vec::new(rt.alloc());
-        for word in words {
-            numbers.push(word.parse::<u32>()?)?;
-        }
         count = count.saturating_add(1);
-        let agrees = match kind {
-            Ok(kind) => line_agrees(rt.alloc(), kind, &numbers)?,
-            Err(_) => false,
-        };
-        if agrees {
+        if line_agrees(rt.alloc(), line.as_str())? {
             agree = agree.saturating_add(1);
         } else {
             println!(rt; "differs: {line}")?;

@@ -121,6 +121,8 @@ where
         P
     }
 
+    // Kept: by `if`: the struct holds that the value is below P, so it is made behind the test, and of `(value < P).then(|| Residue { value })` the
+    // check says "the borrow checker does not cover this function yet: a call of `core::bool::then`".
     fn new(value: u32) -> Option<Residue<P>> {
         if value < P {
             Some(Residue { value })

@@ -9,7 +9,8 @@ pub fn element_bytes<F: BaseField, E: ExtensionField<F>>(x: E) -> ArrayVec<u8, 3
     ensures { result.items ≡ element_bytes F.BaseField.numbering E.ExtensionField.extension x }
 {
     let mut bytes = ArrayVec::new();
-    // Kept: a list of the coefficients would be made only to go over it; an element tells them one by one.
+    // Kept: by the coefficients' places, since a function of a trait cannot answer an `impl Iterator`. An iterator outside
+    // `ExtensionField` would be `(0..E::degree()).map(|j| x.coefficient(j))`, which goes over the same places.
     for j in 0..E::degree() {
         let word = x.coefficient(j).number().to_le_bytes();
         bytes.try_extend_from_slice(&word).unwrap();

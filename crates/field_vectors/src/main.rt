@@ -46,10 +46,11 @@ fn main(rt: HostRuntime) -> anyhow::Result<()> {
     let mut agree = 0u64;
     for line in rt.lines(rt.alloc()) {
         let line = line?;
-        let mut numbers = Vec::new(rt.alloc());
-        for word in line.split_whitespace().skip(1) {
-            numbers.push(word.parse::<u32>()?)?;
-        }
+        let numbers: Vec<u32> = line
+            .split_whitespace()
+            .skip(1)
+            .map(|word| -> anyhow::Result<u32> { Ok(word.parse()?) })
+            .try_collect(rt.alloc())?;
         count = count.saturating_add(1);
         if holds(&numbers) == Some(true) {
             agree = agree.saturating_add(1);

@@ -1,12 +1,13 @@
 -- Items read one after another.
-use Rattle.std.proofs.Common.{◌≡◌, ℕ, suc, ◌+◌, ◌-◌, ◌<◌, ◌≤◌, List, [], ◌∷◌, ◌++◌, Ok, Err, Result, sym, refl, ap, ◌∙◌, append_assoc, add-one, arith}
+use Rattle.std.proofs.Common.{◌≡◌, ℕ, suc, ◌+◌, ◌-◌, ◌<◌, ◌≤◌, List, [], ◌∷◌, ◌++◌, Err, Result, sym, refl, ap, ◌∙◌, append_assoc, add-one, arith}
 use Rattle.std.specs.Prelude.{IsErrAnd}
+use Rattle.std.proofs.lemmas.List.{append-nil}
 use Rattle.std.proofs.lemmas.Result.{err_from_is_err_and}
 use Rattle.format.specs.declared.errors.Expected.{Expected}
-use Rattle.format.specs.Reading.{Read, found, stuck, then, each, plain, Stands, Gives}
+use Rattle.format.specs.Reading.{Read, found, stuck, then, each, Stands, Gives}
 use Rattle.format.specs.declared.errors.Fault.{Fault}
 use Rattle.format.specs.declared.errors.Fault.TheVariants.{Syntax, OutOfMemory}
-use Rattle.format.proofs.Chains.{then_found, then_stuck, breaks, same_reading}
+use Rattle.format.proofs.Chains.{then_found, then_stuck}
 
 -- the items so far, and then the others
 unfoldable pub onto : {X : Type 0} → List X → Read (List X) → Read (List X)
@@ -40,17 +41,6 @@ onto_found : {X : Type 0} (done : List X) (rest : List ℕ) → onto done (found
 unfolding onto then
 onto_found done rest = refl
 
-append_none : {X : Type 0} (xs : List X) → xs ++ [] ≡ xs
-append_none [] = refl
-append_none (x ∷ xs) = ap (λ ys. x ∷ ys) (append_none xs)
-
--- one item before the others, and then what follows
-then_inner : {X Y : Type 0} (x : X) (next : List X → List ℕ → Read Y) (p : Read (List X))
-    → then (then p (λ xs end. found (x ∷ xs) end)) next ≡ then p (λ xs end. next (x ∷ xs) end)
-unfolding then
-then_inner x next (found xs rest) = refl
-then_inner x next (stuck e rest) = refl
-
 -- i items are read, and what is left leads to the whole
 abbrev pub Leads : {X : Type 0} → (ℕ → List ℕ → Read X) → ℕ → List ℕ → ℕ → List X → List ℕ → Type 0
 Leads item count bs i done rest = each item 0 count bs ≡ onto done (each item i (count - i) rest)
@@ -81,7 +71,7 @@ pub leads_all : {X : Type 0} (item : ℕ → List ℕ → Read X) (count : ℕ) 
     → Leads item count bs i done now → count ≤ i → each item 0 count bs ≡ found done now
 leads_all item count bs i done now inv h =
     let z : count - i ≡ 0 = omega arith in
-    inv ∙ ap (onto done) (ap (λ k. each item i k now) z ∙ each_zero item i now) ∙ onto_found done now ∙ ap (λ ys. found ys now) (append_none done)
+    inv ∙ ap (onto done) (ap (λ k. each item i k now) z ∙ each_zero item i now) ∙ onto_found done now ∙ ap (λ ys. found ys now) (append-nil done)
 
 pub leads_start : {X : Type 0} (item : ℕ → List ℕ → Read X) (count : ℕ) (bs : List ℕ) (done : List X) → done ≡ [] → Leads item count bs 0 done bs
 leads_start item count bs done e = leads_none item count bs ∙ ap (λ xs. onto xs (each item 0 (count - 0) bs)) (sym e)
@@ -102,21 +92,3 @@ pub leads_breaks : {W X Z : Type 0} {first : W → X} {meaning : Z → List X} {
     → IsErrAnd r (λ e. e ≡ d) → Gives meaning (each item 0 count bs) r rest
 leads_breaks {first = f} {meaning = m} {d = d} {rest = rest} {r = r} item count bs i done now inv h g e =
     let b = err_from_is_err_and r e in rw (b.1, b.2) (record { stands = broken f m item count bs i done now d rest inv h g.stands })
-
--- an item was read, and the answer is that of the others
-pub item_follows : {X Y Z : Type 0} {meaning : Z → Y} {bs : List ℕ} {x : X} {rest end : List ℕ} {r : Result Z Fault}
-    (item : ℕ → List ℕ → Read X) (next : List X → List ℕ → Read Y) (i k : ℕ) → Gives plain (item i bs) (Ok x) rest
-    → Gives meaning (then (each item (suc i) k rest) (λ xs b. next (x ∷ xs) b)) r end → Gives meaning (then (each item i (suc k) bs) next) r end
-item_follows {bs = bs} {x = x} {rest = rest} item next i k e g =
-    same_reading (ap (λ q. then q next) (each_suc item i k bs ∙ then_found _ e.stands) ∙ then_inner x next (each item (suc i) k rest)) g
-
-pub item_breaks : {X Y Z : Type 0} {meaning : Z → Y} {bs : List ℕ} {d : Fault} {rest : List ℕ} {r : Result Z Fault}
-    (item : ℕ → List ℕ → Read X) (next : List X → List ℕ → Read Y) (i k : ℕ) → Gives plain (item i bs) (Err d) rest → IsErrAnd r (λ e. e ≡ d)
-    → Gives meaning (then (each item i (suc k) bs) next) r rest
-item_breaks {bs = bs} {rest = rest} item next i k e h =
-    same_reading (ap (λ q. then q next) (each_suc item i k bs)) (breaks next (breaks {meaning = plain} {r = Err _} _ e refl) h)
-
--- no item is left
-pub items_end : {X Y Z : Type 0} {meaning : Z → Y} {bs end : List ℕ} {r : Result Z Fault}
-    (item : ℕ → List ℕ → Read X) (next : List X → List ℕ → Read Y) (i : ℕ) → Gives meaning (next [] bs) r end → Gives meaning (then (each item i 0 bs) next) r end
-items_end {bs = bs} item next i g = same_reading (then_found next (each_zero item i bs)) g

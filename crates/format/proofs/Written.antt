@@ -1,6 +1,7 @@
 -- Reading what is written.
-use Rattle.std.proofs.Common.{◌≡◌, ℕ, suc, ◌+◌, ◌-◌, ◌*◌, ◌%◌, ◌^◌, ◌<◌, ◌≤◌, Bool, true, false, cond, ◌&&◌, eqb, ltb, List, [], ◌∷◌, ◌++◌, length, take, drop, codes, decimal, sym, refl, ap, ◌∙◌, append_assoc, arith, length-append}
+use Rattle.std.proofs.Common.{◌≡◌, ℕ, suc, ◌+◌, ◌-◌, ◌*◌, ◌%◌, ◌^◌, ◌<◌, ◌≤◌, Bool, true, false, cond, ◌&&◌, eqb, ltb, List, [], ◌∷◌, ◌++◌, length, take, decimal, sym, refl, ap, ◌∙◌, append_assoc, arith, length-append}
 use Rattle.std.specs.List.{AllByRecursion}
+use Rattle.std.proofs.Math.Seq.{drop-append_seam, take-append_seam}
 use Rattle.std.proofs.lemmas.Fmt.{decimal_by_steps}
 use Rattle.std.proofs.lemmas.Bool.{eq-eqb, le-leb, lt-ltb, and_from, cond-true}
 use Rattle.parameters.specs.Schedule.{Strategy, constant, second, per_round}
@@ -17,25 +18,16 @@ use Rattle.format.specs.Lines.{line, byte_item, byte_list, flag, line_index, str
 use Rattle.format.specs.Configurations.{configuration_lines}
 use Rattle.format.specs.Written.{spaced, all_text, spaced_all, listed, line_of_text, flag_text, strategy_text, fields, round_text, number_text, written, Held, ReadsBack, WrittenApart}
 use Rattle.format.proofs.Chains.{then_found}
-use Rattle.format.proofs.Words.{word_there}
 use Rattle.format.proofs.Digits.{small_number}
 use Rattle.format.proofs.Lists.{each_suc, each_zero}
-use Rattle.format.proofs.Strategies.{is_constant, is_second, is_listed}
 
 begins_own : (ws bs : List ℕ) → begins ws (ws ++ bs) ≡ true
 begins_own [] bs = refl
 begins_own (w ∷ ws) bs = ap (λ t. t && begins ws (ws ++ bs)) (eq-eqb w w refl) ∙ begins_own ws bs
 
-drop_own : (ws bs : List ℕ) → drop (length ws) (ws ++ bs) ≡ bs
-drop_own [] bs = refl
-drop_own (w ∷ ws) bs = drop_own ws bs
-
-take_own : (ws bs : List ℕ) → take (length ws) (ws ++ bs) ≡ ws
-take_own [] bs = refl
-take_own (w ∷ ws) bs = ap (λ l. w ∷ l) (take_own ws bs)
-
 word_back : (ws : List ℕ) (e : Expected) (bs : List ℕ) → the_word ws e (ws ++ bs) ≡ found tt bs
-word_back ws e bs = word_there ws e (ws ++ bs) (begins_own ws bs) ∙ ap (found tt) (drop_own ws bs)
+unfolding the_word
+word_back ws e bs = cond-true (begins ws (ws ++ bs)) _ _ (begins_own ws bs) ∙ ap (found tt) (drop-append_seam ws bs)
 
 key_back : (k : Key) (bs : List ℕ) → the_key k (letters k ++ bs) ≡ found tt bs
 key_back k bs = word_back (letters k) (expected.Word k) bs
@@ -92,8 +84,8 @@ number_back n bs h e =
     let ds = decimal n in
     let count : length ds ≡ digit_count (ds ++ bs) = omega (arith, s.counted bs, e) in
     let some : length ds ≡ 0 → ⊥ = λ z. omega (arith, z, s.some) in
-    let v : n ≡ value_after 0 (take (length ds) (ds ++ bs)) = sym (ap (value_after 0) (take_own ds bs) ∙ s.valued) in
-    small_number (ds ++ bs) (length ds) n count some (omega (arith, v)) (omega arith) ∙ ap (found n) (drop_own ds bs)
+    let v : n ≡ value_after 0 (take (length ds) (ds ++ bs)) = sym (ap (value_after 0) (take-append_seam ds bs) ∙ s.valued) in
+    small_number (ds ++ bs) (length ds) n count some (omega (arith, v)) (omega arith) ∙ ap (found n) (drop-append_seam ds bs)
 
 next_back : (n : ℕ) (bs : List ℕ) → Held n → Clean bs → next_number (spaced n bs) ≡ found n bs
 unfolding next_number
@@ -157,16 +149,12 @@ index_back i bs h e =
     ∙ cond-true (eqb i i) _ _ (eq-eqb i i refl)
 
 strategy_back : (s : Strategy) (bs : List ℕ) → Held (length (factors_of s)) → AllByRecursion Held (factors_of s) → Clean bs → strategy (strategy_text s bs) ≡ found s bs
-unfolding constant_behind second_behind listed_behind
-strategy_back (constant f) bs h a e =
-    is_constant (codes " constant" ++ spaced f bs) (spaced f bs) refl refl ∙ then_found (λ g rest. found (constant g) rest) (next_back f bs a.0 e)
+unfolding strategy constant_behind second_behind listed_behind
+strategy_back (constant f) bs h a e = then_found (λ g rest. found (constant g) rest) (next_back f bs a.0 e)
 strategy_back (second f g) bs h a e =
-    is_second (codes " second" ++ spaced f (spaced g bs)) (codes " second" ++ spaced f (spaced g bs)) (spaced f (spaced g bs)) refl refl refl refl
-    ∙ then_found (λ x rest. then (next_number rest) (λ y end. found (second x y) end)) (next_back f (spaced g bs) a.0 refl)
+    then_found (λ x rest. then (next_number rest) (λ y end. found (second x y) end)) (next_back f (spaced g bs) a.0 refl)
     ∙ then_found (λ y end. found (second f y) end) (next_back g bs a.1.0 e)
-strategy_back (per_round fs) bs h a e =
-    is_listed (codes " per_round" ++ listed fs bs) (codes " per_round" ++ listed fs bs) (codes " per_round" ++ listed fs bs) (listed fs bs) refl refl refl refl refl refl
-    ∙ then_found (λ xs rest. found (per_round xs) rest) (list_back fs bs h a e)
+strategy_back (per_round fs) bs h a e = then_found (λ xs rest. found (per_round xs) rest) (list_back fs bs h a e)
 
 line_back : {X : Type 0} (k : Key) (part : List ℕ → Read X) (text : List ℕ → List ℕ) (x : X) (more : List ℕ) → part (text (10 ∷ more)) ≡ found x (10 ∷ more)
     → line k part (line_of_text k text more) ≡ found x more

@@ -97,6 +97,7 @@ impl<'a> Cursor<'a> {
     }
 
     // A blank, and a number behind it.
+    #[tactic(auto, unfolding(crate::specs::Reading::next_number, crate::specs::Reading::then))]
     pub fn next_number(&mut self) -> Result<usize, Fault>
         ensures { Gives plain (next_number self.old.rest.now) result self.new.rest.now }
     {

@@ -39,9 +39,11 @@ pub enum Expected {
 }
 
 // Why a part was not read: the text stood otherwise, or memory ran out.
-#[derive(Clone, Copy, PartialEq, Eq, Debug)]
+#[derive(Clone, Copy, PartialEq, Eq, Debug, Error)]
 pub enum Fault {
+    #[error("expected {0}")]
     Syntax(Expected),
+    #[error("out of memory")]
     OutOfMemory,
 }
 
@@ -59,7 +61,8 @@ impl Fault {
     }
 }
 
-// Kept: want of memory comes as either of two errors, and a clause has to know what `?` makes of each.
+// Kept: want of memory comes as either of two errors, and a clause has to know what `?` makes of each; `#[from(alloc)]` of the derive
+// writes both, and says of neither what it makes.
 impl From<AllocError> for Fault {
     ghost from_gives = { λ _ r. r ≡ OutOfMemory };
 

@@ -51,6 +51,7 @@ impl Item for usize {
 impl Item for u8 {
     ghost item = { λ _. byte_item };
 
+    #[tactic(auto, unfolding(crate::specs::Lines::byte_item, crate::specs::Reading::then))]
     fn read_at(cursor: &mut Cursor, _index: usize) -> Result<u8, Fault> {
         let number = cursor.next_number()?;
         u8::try_from(number).map_err(|_| Fault::Syntax(Expected::Byte))
@@ -61,6 +62,7 @@ impl Item for u8 {
 impl Item for RoundConfig {
     ghost item = { round };
 
+    #[tactic(auto, unfolding(crate::specs::Lines::round, crate::specs::Reading::numbers_listed, crate::specs::Reading::each, crate::specs::Reading::then))]
     fn read_at(cursor: &mut Cursor, index: usize) -> Result<RoundConfig, Fault> {
         cursor.key(Key::Round)?;
         cursor.index(index)?;
@@ -101,6 +103,7 @@ impl Part for bool {
 
     ghost reading = { flag };
 
+    #[tactic(auto, unfolding(crate::specs::Lines::flag, crate::specs::Reading::then))]
     fn read(cursor: &mut Cursor) -> Result<bool, Fault> {
         match cursor.next_number()? {
             0 => Ok(false),
@@ -118,6 +121,7 @@ impl<T: Item> Part for Vec<T> {
 
     ghost reading = { list_of T.item };
 
+    #[tactic(auto, unfolding(crate::specs::Reading::list_of, crate::specs::Reading::then))]
     fn read(cursor: &mut Cursor) -> Result<Vec<T>, Fault> {
         let count = cursor.next_number()?;
         cursor.items(count)
@@ -132,6 +136,7 @@ impl Part for FoldingFactor {
 
     ghost reading = { strategy };
 
+    #[tactic(auto, unfolding(crate::specs::Lines::strategy, crate::specs::Lines::constant_behind, crate::specs::Lines::second_behind, crate::specs::Lines::listed_behind, crate::specs::Reading::then))]
     fn read(cursor: &mut Cursor) -> Result<FoldingFactor, Fault> {
         if cursor.takes(b" constant") {
             let factor = cursor.next_number()?;
@@ -158,6 +163,7 @@ impl Part for TerminalBudget {
 
     ghost reading = { terminal_of };
 
+    #[tactic(auto, unfolding(crate::specs::Lines::terminal_of, crate::specs::Reading::then))]
     fn read(cursor: &mut Cursor) -> Result<TerminalBudget, Fault> {
         let num_queries = cursor.next_number()?;
         let pow_bits = cursor.next_number()?;
@@ -170,6 +176,7 @@ impl Part for TerminalBudget {
 
 impl<'a> Cursor<'a> {
     // The index of a line in its group.
+    #[tactic(auto, unfolding(crate::specs::Lines::line_index, crate::specs::Reading::then))]
     pub fn index(&mut self, index: usize) -> Result<(), Fault>
         ensures { Gives plain (line_index index self.old.rest.now) result self.new.rest.now }
     {
@@ -181,10 +188,13 @@ impl<'a> Cursor<'a> {
     }
 
     // As many items, one after another.
+    #[tactic(auto, using(crate::proofs::Lists::leads_start, crate::proofs::Lists::leads_push, crate::proofs::Lists::leads_all))]
     pub fn items<T: Item>(&mut self, count: usize) -> Result<Vec<T>, Fault>
         ensures { Gives vec_items (each T.item 0 count self.old.rest.now) result self.new.rest.now }
     {
         let mut items = Vec::new(self.heap);
+        // Kept: `try_collect` was tried, and says nothing of where its closure leaves the cursor, which the clause tells; `try_fold` would
+        // push in a closure, and hand the list on from item to item.
         for index in 0..count {
             let item = T::read_at(self, index)?;
             items.push(item)?;
@@ -193,6 +203,7 @@ impl<'a> Cursor<'a> {
     }
 
     // The rounds: a line with their number, and a line for each.
+    #[tactic(auto, unfolding(crate::specs::Lines::rounds, crate::specs::Lines::rounds_listed, crate::specs::Reading::then))]
     pub fn rounds(&mut self) -> Result<Vec<RoundConfig>, Fault>
         ensures { Gives vec_items (rounds self.old.rest.now) result self.new.rest.now }
     {
@@ -201,6 +212,7 @@ impl<'a> Cursor<'a> {
     }
 
     // A line: its key word, what stands behind it, and the line feed.
+    #[tactic(auto, unfolding(crate::specs::Lines::line, crate::specs::Reading::then))]
     pub fn line<P: Part>(&mut self, key: Key) -> Result<P, Fault>
         ensures { Gives P.shown (line key P.reading self.old.rest.now) result self.new.rest.now }
     {

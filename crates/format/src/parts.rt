@@ -11,6 +11,7 @@ use configuration::whir_parameters::WhirNumbers;
 
 impl<'a> Cursor<'a> {
     // The numbers of a configuration, from the line of its variables to that of the last difficulty.
+    #[tactic(auto, unfolding(crate::specs::Configurations::configuration_lines, crate::specs::Reading::then))]
     pub fn configuration(&mut self) -> Result<WhirNumbers, Fault>
         ensures { Gives numbers_of (configuration_lines self.old.rest.now) result self.new.rest.now }
     {

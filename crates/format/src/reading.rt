@@ -44,6 +44,7 @@ pub fn from_line<'a>(text: &'a [u8], word: &[u8]) -> &'a [u8]
 
 // The numbers of the configuration that a text has: from the line that begins with the word `num_variables`, to the last line of the
 // configuration. What comes before and behind is not looked at.
+#[tactic(auto, unfolding(crate::specs::Files::outcome))]
 pub fn read_configuration(heap: Global, text: &[u8]) -> Result<WhirNumbers, ReadError>
     ensures { Answers result text.now }
 {
@@ -55,6 +56,7 @@ pub fn read_configuration(heap: Global, text: &[u8]) -> Result<WhirNumbers, Read
 }
 
 // Reading what is written of a configuration gives its numbers back, so that no two configurations share a text.
+#[tactic(auto, using(crate::proofs::Written::reads_back, crate::proofs::Written::written_apart))]
 pub fn configurations_read_back()
     ensures back { ReadsBack }
     ensures apart { WrittenApart }

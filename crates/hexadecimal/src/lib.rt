@@ -35,6 +35,8 @@ pub fn from_hex(heap: Global, text: &str) -> Result<Option<Vec<u8>>, AllocError>
     if text == "-" {
         return Ok(Some(bytes));
     }
+    // Kept: std says nothing yet of what `collect` into an `Option` answers, so that the clause was not proved; `try_collect` would need
+    // an error of two kinds, no digit and no memory, only to be taken apart behind it.
     for pair in text.as_bytes().chunks(2) {
         let [high, low] = pair else {
             return Ok(None);

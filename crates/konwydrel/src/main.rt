@@ -11,6 +11,7 @@ use parameters::folding::FoldingFactor;
 use std::alloc::{AllocError, Global};
 use std::process::ExitCode;
 use std::{env, fmt, fs, io};
+use text::number;
 use thiserror::Error;
 
 const USAGE: &str =
@@ -83,9 +84,8 @@ fn main(rt: HostRuntime) -> ExitCode {
 
 // Writes the fault on standard error, a line.
 fn failed(rt: &HostRuntime, fault: &RunError) -> ExitCode {
-    match eprintln!(rt; "{fault}") {
-        Ok(()) | Err(_) => ExitCode::FAILURE,
-    }
+    let _ = eprintln!(rt; "{fault}");
+    ExitCode::FAILURE
 }
 
 fn run(rt: &HostRuntime) -> Result<(), RunError> {
@@ -114,11 +114,11 @@ fn requested<'a>(heap: Global, words: &[&'a str]) -> Result<Request<'a>, RunErro
     match words {
         ["config", path] => Ok(Request::Config(path)),
         ["schedule", num_variables, strategy, factors @ ..] => {
-            let num_variables = number(num_variables)?;
-            let mut numbers = Vec::new(heap);
-            for factor in factors {
-                numbers.push(number(factor)?)?;
-            }
+            let num_variables = number::parse(num_variables).ok_or(RunError::Usage)?;
+            let numbers: Vec<usize> = factors
+                .iter()
+                .map(|factor| number::parse(factor).ok_or(RunError::Usage))
+                .try_collect(heap)?;
             let strategy = strategy_of(heap, strategy, &numbers)?;
             if num_variables > LIMIT || numbers.iter().any(|n| *n > LIMIT) {
                 return Err(RunError::Refused(WhirConfigError::Limit));
@@ -127,13 +127,6 @@ fn requested<'a>(heap: Global, words: &[&'a str]) -> Result<Request<'a>, RunErro
         }
         _ => Err(RunError::Usage),
     }
-}
-
-// The number that a word is.
-fn number(word: &str) -> Result<usize, RunError> {
-    text::number::number(word.as_bytes())
-        .map(|n| n as usize)
-        .ok_or(RunError::Usage)
 }
 
 // The strategy of a name and its factors.

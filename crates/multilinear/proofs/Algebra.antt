@@ -44,14 +44,8 @@ module _ {E : Type 0} (F : Ops E) (L : IsRing F) where
   pub sub_add : (a b : E) → F.add (F.sub a b) b ≡ a
   sub_add = L.sub_add
 
-  pub add_sub : (a b : E) → F.add b (F.sub a b) ≡ a
-  add_sub a b = ring L (a ∷ b ∷ []) (v1 ⊕ (v0 ⊖ v1)) v0 tt
-
   pub cancel : (a b c : E) → F.add a c ≡ F.add b c → a ≡ b
   cancel a b c h = ring_by L (a ∷ b ∷ c ∷ []) v0 v1 I (v0 ⊕ v2) (v1 ⊕ v2) h tt
-
-  pub cancel_left : (a b c : E) → F.add c a ≡ F.add c b → a ≡ b
-  cancel_left a b c h = ring_by L (a ∷ b ∷ c ∷ []) v0 v1 I (v2 ⊕ v0) (v2 ⊕ v1) h tt
 
   pub sub_unique : (a b x : E) → F.add x b ≡ a → F.sub a b ≡ x
   sub_unique a b x h = ring_by L (a ∷ b ∷ x ∷ []) (v0 ⊖ v1) v2 (O ⊖ I) (v2 ⊕ v1) v0 h tt
@@ -116,17 +110,3 @@ module _ {E : Type 0} (F : Ops E) (L : IsRing F) where
       ≡ F.add (F.mul m (F.add (F.mul w u) s)) (F.mul r (F.add (F.mul w v) t))
   mix_step m r w u v s t =
       ring L (m ∷ r ∷ w ∷ u ∷ v ∷ s ∷ t ∷ []) (v2 ⊗ (v0 ⊗ v3 ⊕ v1 ⊗ v4) ⊕ (v0 ⊗ v5 ⊕ v1 ⊗ v6)) (v0 ⊗ (v2 ⊗ v3 ⊕ v5) ⊕ v1 ⊗ (v2 ⊗ v4 ⊕ v6)) tt
-
-  -- one more coefficient of a running sum of powers
-  pub power_more : (s p v a t : E) → F.add (F.add s (F.mul p v)) (F.mul (F.mul p a) t) ≡ F.add s (F.mul p (F.add v (F.mul a t)))
-  power_more s p v a t = ring L (s ∷ p ∷ v ∷ a ∷ t ∷ []) ((v0 ⊕ v1 ⊗ v2) ⊕ (v1 ⊗ v3) ⊗ v4) (v0 ⊕ v1 ⊗ (v2 ⊕ v3 ⊗ v4)) tt
-
-  pub divide_none : (r y : E) → F.mul (F.add y r) F.zero ≡ F.add (F.mul r F.zero) (F.mul y F.zero)
-  divide_none r y = ring L (r ∷ y ∷ []) ((v1 ⊕ v0) ⊗ O) (v0 ⊗ O ⊕ v1 ⊗ O) tt
-
-  -- one more coefficient of a division by X − r, at y + r
-  pub divide_more : (d r y m s t : E) → F.mul (F.add y r) t ≡ F.add (F.mul r m) (F.mul y s)
-      → F.mul (F.add y r) (F.add d (F.mul (F.add y r) t)) ≡ F.add (F.mul r (F.add d (F.mul r m))) (F.mul y (F.add (F.add d (F.mul r m)) (F.mul (F.add y r) s)))
-  divide_more d r y m s t h =
-      ring_by L (d ∷ r ∷ y ∷ m ∷ s ∷ t ∷ []) ((v2 ⊕ v1) ⊗ (v0 ⊕ (v2 ⊕ v1) ⊗ v5)) (v1 ⊗ (v0 ⊕ v1 ⊗ v3) ⊕ v2 ⊗ ((v0 ⊕ v1 ⊗ v3) ⊕ (v2 ⊕ v1) ⊗ v4)) (v2 ⊕ v1) ((v2 ⊕ v1) ⊗ v5)
-      (v1 ⊗ v3 ⊕ v2 ⊗ v4) h tt

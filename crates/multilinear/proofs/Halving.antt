@@ -1,7 +1,7 @@
 -- A table's value, one variable at a time: what a buffer of values does.
 use Rattle.std.proofs.Common.{◌≡◌, suc, ◌^◌, List, [], ◌∷◌, ◌++◌, length, sym, refl, ap, ◌∙◌, ap₂, arith}
 use Rattle.ring.specs.Ring.{Ops, IsRing}
-use Rattle.multilinear.specs.Tables.{corners, product, dot, tabulate, eq, eq_factor, value}
+use Rattle.multilinear.specs.Tables.{corners, product, dot, tabulate, eq, value}
 use Rattle.multilinear.specs.Weights.{weighted}
 use Rattle.multilinear.specs.Scratch.{mixed}
 use Rattle.multilinear.proofs.Algebra as A
@@ -36,10 +36,6 @@ module _ {E : Type 0} (F : Ops E) (L : IsRing F) where
   unfolding weighted tabulate corners dot product
   weighted_one f v [] = A.add-zero F L (𝟙 ⊗ v) ∙ A.one-mul F L v
   weighted_one f v (w ∷ g) = A.add-zero F L (𝟙 ⊗ v) ∙ A.one-mul F L v
-
-  pub value_one : (v : E) (g : List E) → value F (v ∷ g) [] ≡ v
-  unfolding value weighted
-  value_one v g = weighted_one (eq_factor F) v g
 
   pub length_mixed : (r : E) (a b : List E) → length a ≡ length b → length (mixed F r a b) ≡ length a
   unfolding mixed

@@ -1,10 +1,11 @@
 -- One turn of each loop, and its end, over plain values.
-use Rattle.std.proofs.Common.{◌≡◌, ℕ, suc, ◌+◌, ◌-◌, ◌*◌, ◌/◌, ◌^◌, ◌<◌, ◌≤◌, List, [], ◌∷◌, ◌++◌, length, get_or, take, drop, set, sym, refl, ap, ◌∙◌, ap₂, add-zero, add-one, arith, append_assoc, length-append, length-drop, length-set, drop_of_length-le, take_all, length-take, get_or-drop, drop-cons, drop-drop, drop-set-lt, take-add, pow_mono}
+use Rattle.std.proofs.Common.{◌≡◌, ℕ, suc, ◌+◌, ◌-◌, ◌*◌, ◌/◌, ◌^◌, ◌<◌, ◌≤◌, List, [], ◌∷◌, ◌++◌, length, get_or, take, drop, set, reverse, sym, refl, ap, ◌∙◌, ap₂, add-zero, add-one, arith, append_assoc, length-append, length-drop, length-set, drop_of_length-le, take_all, length-take, get_or-drop, drop-cons, drop-drop, drop-set-lt, take-add, pow_mono}
 use native.Mathlib.Nat.{pow-succ'}
-use Rattle.std.proofs.lemmas.List.{take_more, take_more_set, get_or-set_same, append-nil}
+use Rattle.std.proofs.lemmas.List.{take_more, take_more_set, get_or-set_same, append-nil, reverse-append, take-append-le, drop-append-le, take-append-drop}
+use Rattle.std.proofs.lemmas.List.Sums.{fold-append}
 use Rattle.std.specs.List.{fold, zip}
 use Rattle.ring.specs.Ring.{Ops, IsRing}
-use Rattle.multilinear.specs.Tables.{product, value}
+use Rattle.multilinear.specs.Tables.{product, eq_factor, value}
 use Rattle.multilinear.specs.Weights.{weighted}
 use Rattle.ring.specs.Polynomials.{value as at}
 use Rattle.multilinear.specs.Univariate.{pow, expand}
@@ -12,7 +13,7 @@ use Rattle.multilinear.specs.Scratch.{mixed, bound, spent}
 use Rattle.multilinear.proofs.Algebra as A
 use Rattle.multilinear.proofs.Corners as C
 use Rattle.multilinear.proofs.Digits.{pow-add}
-use Rattle.multilinear.proofs.Halving.{value_mixed, weighted_one, value_one, mixed_push, length_mixed}
+use Rattle.multilinear.proofs.Halving.{value_mixed, weighted_one, mixed_push, length_mixed}
 
 -- the element at i and what is behind it
 pub front : {E : Type 0} (p : List E) (i : ℕ) (a : E) → i < length p → a ≡ get_or p i a → drop i p ≡ a ∷ drop (i + 1) p
@@ -98,8 +99,16 @@ module _ {E : Type 0} (F : Ops E) (L : IsRing F) where
       ∙ ap₂ (λ a r. a ∷ r) ep (ap (λ k. drop k (set out (j - 1) p)) s ∙ drop-set-lt j out (j - 1) p (omega arith) ∙ inv)
       ∙ ap (expand F v) (sym (one_left n j pos le))
 
-  pub powers_all : (vs : List E) (i : ℕ) (a s p t : E) → length vs ≤ i → s ⊕ p ⊗ at F (drop i vs) a ≡ t → s ≡ t
-  powers_all vs i a s p t h inv = A.line_still F L s p ∙ ap (λ l. s ⊕ p ⊗ at F l a) (sym (drop_of_length-le vs h)) ∙ inv
+  -- Horner's rule, from the last value on
+  horner : (vs : List E) (a : E) → fold (λ z v. z ⊗ a ⊕ v) 𝟘 (reverse vs) ≡ at F vs a
+  horner [] a = refl
+  horner (v ∷ vs) a =
+      let turn : E → E → E = λ z w. z ⊗ a ⊕ w in
+      ap (fold turn 𝟘) (reverse-append (v ∷ []) vs) ∙ fold-append turn 𝟘 (reverse vs) (v ∷ [])
+      ∙ ap (λ z. z ⊗ a ⊕ v) (horner vs a) ∙ A.comm F L (at F vs a ⊗ a) v ∙ ap (λ z. v ⊕ z) (A.mcomm F L (at F vs a) a)
+
+  pub fold_horner : (vs : List E) (a s : E) → s ≡ 𝟘 → fold (λ z v. z ⊗ a ⊕ v) s (reverse vs) ≡ at F vs a
+  fold_horner vs a s e = ap (λ z. fold (λ y v. y ⊗ a ⊕ v) z (reverse vs)) e ∙ horner vs a
 
   -- a table by its halves
   pub halves_none : (f : E → E → E) (t x : List E) (v : E) → x ≡ [] → length t ≡ 2 ^ length x → v ≡ get_or t 0 v → v ≡ weighted F f t x
@@ -167,46 +176,66 @@ module _ {E : Type 0} (F : Ops E) (L : IsRing F) where
       let l : length (mixed F r (take half e) (take half (drop half e))) ≡ half = m ∙ simp length-take (omega arith) in
       ap (λ k. take k (mixed F r (take half e) (take half (drop half e)) ++ drop half e)) (sym l) ∙ lib.Seq.take-append_seam (mixed F r (take half e) (take half (drop half e))) (drop half e)
 
-  -- what is left of the evaluation, at the coordinates that are left, comes to the whole: its value and the slice after it
-  pub record Leads (b rest : List E) (left : ℕ) (all : List E) (v : E) : Type 0 where
-    pub left_is : left ≡ 2 ^ length rest
-    pub fits : left ≤ length b
-    pub value_is : value F (take left b) rest ≡ v
-    pub spent_is : spent F rest b ≡ all
+  -- the part of a slice behind the table in its front stays
+  bound_front : (r : E) (half : ℕ) (a b : List E) → half + half ≤ length a → bound F r half (a ++ b) ≡ bound F r half a ++ b
+  unfolding bound
+  bound_front r half a b h =
+      let behind : drop half (a ++ b) ≡ drop half a ++ b = drop-append-le half a b (omega arith) in
+      let room : half ≤ length (drop half a) = simp length-drop (omega arith) in
+      let upper : take half (drop half (a ++ b)) ≡ take half (drop half a) = ap (take half) behind ∙ take-append-le half (drop half a) b room in
+      ap₂ (λ x y. x ++ y) (ap₂ (mixed F r) (take-append-le half a b (omega arith)) upper) behind
+      ∙ sym (append_assoc (mixed F r (take half a) (take half (drop half a))) (drop half a) b)
 
-  spent_next : (x : E) (q b b' : List E) (h : ℕ) → h ≡ 2 ^ length q → b' ≡ bound F x h b → spent F q b' ≡ spent F (x ∷ q) b
+  spent_front : (p a b : List E) → 2 ^ length p ≤ length a → spent F p (a ++ b) ≡ spent F p a ++ b
   unfolding spent
-  spent_next x q b b' h e eb = ap (spent F q) (eb ∙ ap (λ k. bound F x k b) e)
+  spent_front [] a b h = refl
+  spent_front (r ∷ p) a b h =
+      let two : 2 ^ length (r ∷ p) ≡ 2 * 2 ^ length p = pow-succ' 2 (length p) in
+      let room : 2 ^ length p + 2 ^ length p ≤ length a = omega arith in
+      let same : length (bound F r (2 ^ length p) a) ≡ length a = length_bound r (2 ^ length p) a room in
+      ap (spent F p) (bound_front r (2 ^ length p) a b room) ∙ spent_front p (bound F r (2 ^ length p) a) b (omega arith)
 
-  pub evaluate_more : (rest q b b' : List E) (left : ℕ) (x v : E) (all : List E) → rest ≡ x ∷ q → b' ≡ bound F x (left / 2) b → Leads b rest left all v → Leads b' q (left / 2) all v
-  evaluate_more rest q b b' left x v all next is_b inv =
-      let is_left = inv.left_is in
-      let fits = inv.fits in
-      let two : 2 ^ length rest ≡ 2 * 2 ^ length q = ap (λ l. 2 ^ length l) next ∙ pow-succ' 2 (length q) in
-      let half : left / 2 ≡ 2 ^ length q = omega arith in
-      let dbl : left ≡ left / 2 + left / 2 = omega arith in
-      let room : left / 2 + left / 2 ≤ length b = omega arith in
-      let la : length (take (left / 2) b) ≡ 2 ^ length q = simp length-take (omega arith) in
-      let lb : length (take (left / 2) (drop (left / 2) b)) ≡ 2 ^ length q = simp (length-take, length-drop) (omega arith) in
-      let len : length b' ≡ length b = ap length is_b ∙ length_bound x (left / 2) b room in
-      let split : take left b ≡ take (left / 2) b ++ take (left / 2) (drop (left / 2) b) = ap (λ k. take k b) dbl ∙ take-add (left / 2) (left / 2) b in record {
-        left_is = half;
+  pub spent_part : (p s : List E) (n : ℕ) → n ≡ 2 ^ length p → n ≤ length s → spent F p (take n s) ++ drop n s ≡ spent F p s
+  spent_part p s n e h =
+      let same : length (take n s) ≡ n = simp length-take (omega arith) in
+      sym (spent_front p (take n s) (drop n s) (omega arith)) ∙ ap (spent F p) (take-append-drop n s)
+
+  -- no variable is left
+  pub value_none : (t x : List E) (v : E) → x ≡ [] → length t ≡ 2 ^ length x → v ≡ get_or t 0 v → v ≡ value F t x
+  unfolding value weighted
+  value_none t x v e size is = halves_none (eq_factor F) t x v e size is
+
+  pub spent_none : (t x : List E) → x ≡ [] → t ≡ spent F x t
+  unfolding spent
+  spent_none t x e = ap (λ p. spent F p t) (sym e)
+
+  -- a table t with its first variable bound is b, whose front half has its value at the coordinates that are left
+  pub record Leads (t x b rest : List E) : Type 0 where
+    pub left_is : length b / 2 ≡ 2 ^ length rest
+    pub fits : length b / 2 ≤ length b
+    pub value_is : value F (take (length b / 2) b) rest ≡ value F t x
+    pub spent_is : spent F rest b ≡ spent F x t
+
+  spent_next : (r : E) (p t b : List E) (half : ℕ) → half ≡ 2 ^ length p → b ≡ bound F r half t → spent F p b ≡ spent F (r ∷ p) t
+  unfolding spent
+  spent_next r p t b half e eb = ap (spent F p) (eb ∙ ap (λ k. bound F r k t) e)
+
+  pub bind_leads : (r : E) (t x b rest : List E) → x ≡ r ∷ rest → length t ≡ 2 ^ length x → b ≡ bound F r (length t / 2) t → Leads t x b rest
+  bind_leads r t x b rest next size is_b =
+      let half = length t / 2 in
+      let two : 2 ^ length x ≡ 2 * 2 ^ length rest = ap (λ l. 2 ^ length l) next ∙ pow-succ' 2 (length rest) in
+      let room : half + half ≤ length t = omega arith in
+      let same : length b ≡ length t = ap length is_b ∙ length_bound r half t room in
+      let part : length b / 2 ≡ half = ap (λ n. n / 2) same in
+      let la : length (take half t) ≡ 2 ^ length rest = simp length-take (omega arith) in
+      let lb : length (take half (drop half t)) ≡ 2 ^ length rest = simp (length-take, length-drop) (omega arith) in
+      let whole : take half t ++ take half (drop half t) ≡ t = sym (take-add half half t) ∙ take_all (half + half) t (omega arith) in record {
+        left_is = omega arith;
         fits = omega arith;
-        value_is = ap (λ z. value F (take (left / 2) z) q) is_b ∙ ap (λ z. value F z q) (take_bound x (left / 2) b room)
-            ∙ sym (value_mixed F L x q (take (left / 2) b) (take (left / 2) (drop (left / 2) b)) la lb) ∙ sym (ap₂ (value F) split next) ∙ inv.value_is;
-        spent_is = spent_next x q b b' (left / 2) half is_b ∙ ap (λ l. spent F l b) (sym next) ∙ inv.spent_is;
+        value_is = ap₂ (λ k l. value F (take k l) rest) part is_b ∙ ap (λ l. value F l rest) (take_bound r half t room)
+            ∙ sym (value_mixed F L r rest (take half t) (take half (drop half t)) la lb) ∙ ap₂ (value F) whole (sym next);
+        spent_is = spent_next r rest t b half (omega arith) is_b ∙ ap (λ p. spent F p t) (sym next);
       }
-
-  first : (b : List E) (v : E) → 0 < length b → v ≡ get_or b 0 v → value F (take 1 b) [] ≡ v
-  first [] v h e = absurd (omega arith)
-  first (w ∷ b) v h e = value_one F L w [] ∙ sym e
-
-  pub evaluate_all : (rest b : List E) (left : ℕ) (x v : E) (all : List E) → rest ≡ [] → x ≡ get_or b 0 x → Leads b rest left all v → (x ≡ v) × (b ≡ all)
-  unfolding spent
-  evaluate_all rest b left x v all none is_x inv =
-      let one : left ≡ 1 = inv.left_is ∙ ap (λ l. 2 ^ length l) none in
-      let pos : 0 < length b = omega (arith, inv.fits) in
-      (sym (first b x pos is_x) ∙ ap₂ (λ k q. value F (take k b) q) (sym one) (sym none) ∙ inv.value_is, ap (λ q. spent F q b) (sym none) ∙ inv.spent_is)
 
 -- no room for a table of more variables than a word can count
 pub size_past : (n room : ℕ) → 2 ^ 32 ≤ n → room < 2 ^ 64 → room < 2 ^ n

@@ -1,4 +1,4 @@
-ghost use Rattle.std.specs.Prelude.{◌≡◌, ℕ, ◌+◌, ◌-◌, ◌^◌, ◌<◌, ◌≤◌, length, take, drop, Some, None, MatchOption, ◌≢◌};
+ghost use Rattle.std.specs.Prelude.{◌≡◌, ℕ, ◌/◌, ◌^◌, ◌<◌, ◌≤◌, length, take, drop, Some, None, MatchOption, ◌≢◌};
 ghost use Rattle.multilinear.specs.Tables.{value, position};
 ghost use Rattle.multilinear.specs.Weights.{factor_of, weighted};
 ghost use Rattle.multilinear.specs.Scratch.{bound, spent};
@@ -12,11 +12,8 @@ use field::Field;
 fn table_size(variables: usize, room: usize) -> Option<usize>
     ensures { MatchOption result (room < 2 ^ variables) (λ size. (size ≡ 2 ^ variables) × (size ≤ room)) }
 {
-    let Ok(exponent) = u32::try_from(variables) else {
-        return None;
-    };
-    let size = 2usize.checked_pow(exponent)?;
-    if size > room { None } else { Some(size) }
+    let exponent = u32::try_from(variables).ok()?;
+    2usize.checked_pow(exponent).filter(|size| *size <= room)
 }
 
 // The line through `low` at 0 and `high` at 1, at r.
@@ -26,16 +23,30 @@ fn mix<F: Field>(r: F, low: F, high: F) -> F
     low.add(r.mul(high.sub(low)))
 }
 
-// Binds the first variable of the table in the front of `scratch`, two halves of `half` values, at r.
-fn bind_first<F: Field>(scratch: &mut [F], half: usize, r: F)
-    requires { half + half ≤ length scratch.old }
-    ensures { scratch.new ≡ bound F.Field.ops r half scratch.old }
+// Binds the first variable of a table at r: the front half takes what is left.
+fn bind_first<F: Field>(table: &mut [F], r: F)
+    ensures { table.new ≡ bound F.Field.ops r (length table.old / 2) table.old }
 {
-    let (front, back) = scratch.split_at_mut(half);
+    let half = table.len() / 2;
+    let (front, back) = table.split_at_mut(half);
     // Kept: by an index at the upper half: after a loop over a zip of `iter_mut` no element that was written is known.
     for (i, low) in front.iter_mut().enumerate() {
         *low = mix(r, *low, back[i]);
     }
+}
+
+// Binds all variables of a table, one after another, at the coordinates of a point: its value there.
+fn bind_all<F: Field>(table: &mut [F], point: &Point<F>) -> F
+    requires { length table.old ≡ 2 ^ length point.now }
+    ensures value { result ≡ value F.Field.ops table.old point.now }
+    ensures leaves { table.new ≡ spent F.Field.ops point.now table.old }
+{
+    let Some((r, rest)) = point.split_first() else {
+        return table[0];
+    };
+    bind_first(table, r);
+    let half = table.len() / 2;
+    bind_all(&mut table[..half], &rest)
 }
 
 // The value at a point of the table in the front of `scratch`, which is folded in place.
@@ -45,12 +56,8 @@ pub fn evaluate<F: Field>(scratch: &mut [F], point: &Point<F>) -> Option<F>
     ensures leaves { 2 ^ length point.now ≤ length scratch.old → scratch.new ≡ spent F.Field.ops point.now scratch.old }
     ensures refuses { length scratch.old < 2 ^ length point.now → (result ≡ None) × (scratch.new ≡ scratch.old) }
 {
-    let mut left = table_size(point.len(), scratch.len())?;
-    for r in point.iter() {
-        left /= 2;
-        bind_first(scratch, left, r);
-    }
-    Some(scratch[0])
+    let size = table_size(point.len(), scratch.len())?;
+    Some(bind_all(&mut scratch[..size], point))
 }
 
 // The table under a weight at a point, by its halves: no buffer, and linear in the table's size.

@@ -3,18 +3,15 @@ ghost use Rattle.ring.specs.Polynomials.{value as at};
 
 use field::Field;
 
-// The values weighted by first, first·alpha, first·alpha², ..
+// The values weighted by first, first·alpha, first·alpha², .., by Horner's rule from the last value on.
 pub fn combine_from<F: Field>(values: &[F], alpha: F, first: F) -> F
     ensures { result ≡ F.Field.ops.mul first (at F.Field.ops values.now alpha) }
 {
-    // Kept: one pass with two running values; a fold over pairs, or a zip with the powers, says the same in more words.
-    let mut sum = F::zero();
-    let mut power = first;
-    for v in values {
-        sum = sum.add(power.mul(*v));
-        power = power.mul(alpha);
-    }
-    sum
+    let sum = values
+        .iter()
+        .rev()
+        .fold(F::zero(), |sum, v| sum.mul(alpha).add(*v));
+    first.mul(sum)
 }
 
 // The values weighted by the powers of `alpha`, from the power 0 on.

@@ -7,7 +7,10 @@ use crate::point::Point;
 use field::Field;
 
 // The two weights of a corner at a point.
-// Kept: the two weights are data, and one match in one method says what each is.
+// Kept: a closure for the factor would give each of `weigh`, `weigh_univariate`, `by_halves` and `weigh_table` a `requires` that it may be called, and
+// in place of `factor_of .. weight` a premise, `(f : F → F → F) → ((p x r : F) → W.post factor p x r → r ≡ f p x) → ..`, to be shown at each of
+// their nine calls, two of them in the recursion; a trait would be two unit structs and two impls in place of one match, and its type would have to be
+// named at each of these calls, since no argument shows it.
 #[derive(Clone, Copy, Debug, PartialEq, Eq)]
 pub enum Weight {
     Eq,

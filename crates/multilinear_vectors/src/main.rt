@@ -12,8 +12,9 @@ use multilinear::evaluation::{evaluate, value_at};
 use multilinear::order::VariableOrder;
 use multilinear::point::Point;
 use multilinear::weight::{eq_at, expand_from_univariate, select_at};
-use std::alloc::Global;
+use std::alloc::{AllocError, Global};
 use std::str::FromStr;
+use thiserror::Error;
 
 #[derive(Clone, Copy, Debug, PartialEq, Eq)]
 enum Kind {
@@ -24,108 +25,125 @@ enum Kind {
     Round,
 }
 
-// A word that names no kind.
-#[derive(Clone, Copy, Debug, PartialEq, Eq)]
-struct UnknownKind;
+// Why a line was not compared.
+#[derive(Debug, Drop, Error)]
+enum LineError {
+    #[error("the line is no case")]
+    Unreadable,
+    #[error(transparent)]
+    OutOfMemory(#[from(alloc)] AllocError),
+}
 
 impl FromStr for Kind {
-    type Err = UnknownKind;
+    type Err = LineError;
 
-    fn from_str(word: &str) -> Result<Self, UnknownKind> {
+    fn from_str(word: &str) -> Result<Self, LineError> {
         match word {
             "eq" => Ok(Kind::Eq),
             "select" => Ok(Kind::Select),
             "value" => Ok(Kind::Value),
             "expand" => Ok(Kind::Expand),
             "round" => Ok(Kind::Round),
-            _ => Err(UnknownKind),
+            _ => Err(LineError::Unreadable),
         }
     }
 }
 
 // What a line says behind its modulus and degree. A round has no number of variables.
-#[derive(Clone, Copy)]
+#[derive(Clone, Copy, Debug, PartialEq, Eq)]
 struct Case<'a> {
     kind: Kind,
     variables: usize,
     coefficients: &'a [u32],
 }
 
-fn weight_agrees<E: Field, W: Fn(&[E], &Point<E>) -> Option<E>>(
-    weight_at: W,
-    n: usize,
-    elements: &[E],
-) -> Option<bool>
-    requires { W.IsAlwaysCallable weight_at }
-{
-    let (point, rest) = elements.split_at_checked(n)?;
-    let (x, rest) = rest.split_at_checked(n)?;
-    let [want] = rest else { return None };
-    let answer = weight_at(point, &Point::new(x, VariableOrder::Prefix));
-    Some(answer == Some(*want))
+// The elements of a case, with its number of variables, and as many elements to work in.
+#[derive(Debug, Drop)]
+struct Replay<E> {
+    variables: usize,
+    elements: Vec<E>,
+    scratch: Vec<E>,
 }
 
-// Read in place, and in a buffer that begins with the table, the value is the same.
-fn value_agrees<E: Field>(n: usize, elements: &[E], scratch: &mut [E]) -> Option<bool> {
-    let (want, rest) = elements.split_last()?;
-    let (table, draws) = rest.split_at_checked(rest.len().checked_sub(n)?)?;
-    let point = Point::new(draws, VariableOrder::Prefix);
-    let want = Some(*want);
-    Some(value_at(table, &point) == want && evaluate(scratch, &point) == want)
-}
+impl<E: Field> Replay<E> {
+    fn weight_agrees<W: Fn(&[E], &Point<E>) -> Option<E>>(&self, weight_at: W) -> Option<bool>
+        requires { W.IsAlwaysCallable weight_at }
+    {
+        let (point, rest) = self.elements.split_at_checked(self.variables)?;
+        let (x, rest) = rest.split_at_checked(self.variables)?;
+        let [want] = rest else { return None };
+        let answer = weight_at(point, &Point::new(x, VariableOrder::Prefix));
+        Some(answer == Some(*want))
+    }
 
-fn expansion_agrees<E: Field>(n: usize, elements: &[E], scratch: &mut [E]) -> Option<bool> {
-    let (v, want) = elements.split_first()?;
-    let (out, _rest) = scratch.split_at_mut_checked(n)?;
-    expand_from_univariate(*v, out);
-    Some(&*out == want)
-}
+    // Read in place, and in a buffer that begins with the table, the value is the same.
+    fn value_agrees(&mut self) -> Option<bool> {
+        let (want, rest) = self.elements.split_last()?;
+        let (table, draws) = rest.split_at_checked(rest.len().checked_sub(self.variables)?)?;
+        let point = Point::new(draws, VariableOrder::Prefix);
+        let want = Some(*want);
+        Some(value_at(table, &point) == want && evaluate(&mut self.scratch, &point) == want)
+    }
 
-fn round_agrees<E: Field>(elements: &[E]) -> Option<bool> {
-    match elements {
-        [c, h0, h2, r, want] => Some(claim_after(*c, *h0, *h2, *r) == *want),
-        _ => None,
+    fn expansion_agrees(&mut self) -> Option<bool> {
+        let (v, want) = self.elements.split_first()?;
+        let (out, _rest) = self.scratch.split_at_mut_checked(self.variables)?;
+        expand_from_univariate(*v, out);
+        Some(&*out == want)
+    }
+
+    fn round_agrees(&self) -> Option<bool> {
+        match self.elements.as_slice() {
+            [c, h0, h2, r, want] => Some(claim_after(*c, *h0, *h2, *r) == *want),
+            _ => None,
+        }
+    }
+
+    // Kept: a match on the kind of a line, one arm each, says what is compared; a closure for each kind would say no more.
+    fn holds(&mut self, kind: Kind) -> Option<bool> {
+        match kind {
+            Kind::Eq => self.weight_agrees(eq_at),
+            Kind::Select => self.weight_agrees(select_at),
+            Kind::Value => self.value_agrees(),
+            Kind::Expand => self.expansion_agrees(),
+            Kind::Round => self.round_agrees(),
+        }
     }
 }
 
-// Kept: a match on the kind of a line, one arm each, says what is compared; a closure for each kind would say no more.
-fn holds<E: Field>(kind: Kind, n: usize, elements: &[E], scratch: &mut [E]) -> Option<bool> {
-    match kind {
-        Kind::Eq => weight_agrees(eq_at, n, elements),
-        Kind::Select => weight_agrees(select_at, n, elements),
-        Kind::Value => value_agrees(n, elements, scratch),
-        Kind::Expand => expansion_agrees(n, elements, scratch),
-        Kind::Round => round_agrees(elements),
-    }
+fn agrees<F: BaseField, E: ExtensionField<F>>(
+    heap: Global,
+    case: &Case,
+) -> Result<bool, LineError> {
+    let elements: Vec<E> = case
+        .coefficients
+        .chunks(E::degree().max(1))
+        .map(|x| from_numbers::<F, E>(x).ok_or(LineError::Unreadable))
+        .try_collect(heap)?;
+    let scratch = elements.clone()?;
+    let mut replay = Replay {
+        variables: case.variables,
+        elements,
+        scratch,
+    };
+    replay.holds(case.kind).ok_or(LineError::Unreadable)
 }
 
-fn agrees<F: BaseField, E: ExtensionField<F>>(heap: Global, case: &Case) -> anyhow::Result<bool> {
-    let mut elements = Vec::new(heap);
-    for coefficients in case.coefficients.chunks(E::degree().max(1)) {
-        let Some(x) = from_numbers::<F, E>(coefficients) else {
-            return Ok(false);
-        };
-        elements.push(x)?;
-    }
-    let mut scratch = elements.clone()?;
-    Ok(holds(case.kind, case.variables, &elements, &mut scratch).unwrap_or(false))
-}
-
-fn agrees_over<F: BaseField>(heap: Global, degree: u32, case: &Case) -> anyhow::Result<bool> {
+fn agrees_over<F: BaseField>(heap: Global, degree: u32, case: &Case) -> Result<bool, LineError> {
     match degree {
         1 => agrees::<F, F>(heap, case),
         2 => agrees::<F, Pair<F>>(heap, case),
         4 => agrees::<F, Pair<Pair<F>>>(heap, case),
         8 => agrees::<F, Pair<Pair<Pair<F>>>>(heap, case),
-        _ => Ok(false),
+        _ => Err(LineError::Unreadable),
     }
 }
 
-fn line_agrees(heap: Global, kind: Kind, line: &[u32]) -> anyhow::Result<bool> {
-    let (modulus, degree, variables, coefficients) = match (kind, line) {
+fn case_agrees(heap: Global, kind: Kind, numbers: &[u32]) -> Result<bool, LineError> {
+    let (modulus, degree, variables, coefficients) = match (kind, numbers) {
         (Kind::Round, [modulus, degree, coefficients @ ..]) => (*modulus, *degree, 0, coefficients),
         (_, [modulus, degree, n, coefficients @ ..]) => (*modulus, *degree, *n, coefficients),
-        _ => return Ok(false),
+        _ => return Err(LineError::Unreadable),
     };
     let case = Case {
         kind,
@@ -135,7 +153,21 @@ fn line_agrees(heap: Global, kind: Kind, line: &[u32]) -> anyhow::Result<bool> {
     match modulus {
         257 => agrees_over::<Residue<257>>(heap, degree, &case),
         65537 => agrees_over::<Residue<65537>>(heap, degree, &case),
-        _ => Ok(false),
+        _ => Err(LineError::Unreadable),
+    }
+}
+
+// Whether a line's answer is ours; a line that is no case has none.
+fn line_agrees(heap: Global, line: &str) -> anyhow::Result<bool> {
+    let mut words = line.split_whitespace();
+    let kind = words.next().unwrap_or("").parse::<Kind>();
+    let numbers: Vec<u32> = words
+        .map(|word| -> anyhow::Result<u32> { Ok(word.parse::<u32>()?) })
+        .try_collect(heap)?;
+    let Ok(kind) = kind else { return Ok(false) };
+    match case_agrees(heap, kind, &numbers) {
+        Err(LineError::Unreadable) => Ok(false),
+        answer => Ok(answer?),
     }
 }
 
@@ -145,15 +177,8 @@ fn main(rt: HostRuntime) -> anyhow::Result<()> {
     let mut agree = 0u64;
     for line in rt.lines(rt.alloc()) {
         let line = line?;
-        let mut words = line.split_whitespace();
-        let kind = words.next().and_then(|word| word.parse::<Kind>().ok());
-        let mut numbers = Vec::new(rt.alloc());
-        for word in words {
-            numbers.push(word.parse::<u32>()?)?;
-        }
         count = count.saturating_add(1);
-        let Some(kind) = kind else { continue };
-        if line_agrees(rt.alloc(), kind, &numbers)? {
+        if line_agrees(rt.alloc(), line.as_str())? {
             agree = agree.saturating_add(1);
         }
     }

@@ -38,6 +38,7 @@ pub enum ScheduleError {
     OutOfMemory,
 }
 
+// Kept: a derived `From` says nothing of the error that it makes; with one here, the refusals of `compute_folding_schedule` were not proved.
 impl From<FoldingFactorError> for ScheduleError {
     ghost from_gives = { λ e r. r ≡ Folding e };
 

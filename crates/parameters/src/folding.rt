@@ -1,5 +1,5 @@
 // Folding factor strategies for variable reduction across WHIR rounds.
-ghost use Rattle.std.specs.Prelude.{◌≡◌, ℕ, ◌-◌, ◌<◌, ◌≤◌, ◌∷◌, IfOk, sum, OnOk};
+ghost use Rattle.std.specs.Prelude.{◌≡◌, ◌-◌, ◌<◌, ◌≤◌, IfOk, sum};
 ghost use Rattle.parameters.specs.Schedule.{schedule, walk, by_factors, listed, unless_faulty, Lawful, SchedulesLawful, SampleSchedules};
 ghost use Rattle.parameters.specs.Replies.{strategy_of, factor_at, said, Answers, Tells, Counts, Finds, Passes};
 
@@ -100,14 +100,14 @@ impl FoldingFactor {
 }
 
 // What a schedule has to bring about: so many variables are folded until no more than the threshold are left.
-#[derive(Clone, Copy)]
+#[derive(Clone, Copy, PartialEq, Eq, Debug)]
 struct Reduction {
     num_variables: usize,
     threshold: usize,
 }
 
 // Folds by a first factor, exactly, then by another one, or by what is left where that is less.
-#[derive(Clone, Copy)]
+#[derive(Clone, Copy, PartialEq, Eq, Debug)]
 struct ClampedFolds {
     reduction: Reduction,
     first_round_factor: usize,
@@ -117,7 +117,7 @@ struct ClampedFolds {
 }
 
 // The folds of a strategy without a fault, before the list of them is made.
-#[derive(Clone, Copy)]
+#[derive(Clone, Copy, PartialEq, Eq, Debug)]
 enum Plan<'a> {
     Clamped(ClampedFolds),
 

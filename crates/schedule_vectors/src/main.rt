@@ -7,6 +7,7 @@ use parameters::folding::FoldingFactor;
 use std::alloc::{AllocError, Global};
 use std::fmt::Write;
 use std::io::{BufRead, BufReader};
+use text::number;
 use thiserror::Error;
 
 // Why a line has no answer of ours.
@@ -46,20 +47,18 @@ fn agrees(heap: Global, line: &str) -> Result<bool, LineError> {
     let (strategy, rest) = line.split_once(" n ").ok_or(LineError::Unreadable)?;
     let (n, expected) = rest.split_once(' ').ok_or(LineError::Unreadable)?;
     let strategy = strategy_of(heap, strategy)?;
-    let answer = answer_of(heap, &strategy, number(n)?)?;
+    let n = number::parse(n).ok_or(LineError::Unreadable)?;
+    let answer = answer_of(heap, &strategy, n)?;
     Ok(answer.as_str() == expected)
-}
-
-fn number(word: &str) -> Result<usize, LineError> {
-    text::number::number(word.as_bytes())
-        .map(|n| n as usize)
-        .ok_or(LineError::Unreadable)
 }
 
 // A strategy's name and its numbers; a list has its length before it.
 fn strategy_of(heap: Global, text: &str) -> Result<FoldingFactor, LineError> {
     let (name, words) = text.split_once(' ').ok_or(LineError::Unreadable)?;
-    let numbers: Vec<usize> = words.split(' ').map(number).try_collect(heap)?;
+    let numbers: Vec<usize> = words
+        .split(' ')
+        .map(|word| number::parse(word).ok_or(LineError::Unreadable))
+        .try_collect(heap)?;
     match (name, numbers.as_slice()) {
         ("constant", [f]) => Ok(FoldingFactor::Constant(*f)),
         ("second", [f, g]) => Ok(FoldingFactor::ConstantFromSecondRound(*f, *g)),

@@ -41,7 +41,7 @@ pub fn draw_extension<F: BaseField, E: ExtensionField<F>, S: Sponge>(sponge: &mu
     ensures { Plays S.Sponge.rules (S.Sponge.held sponge.old) (draw_extension F.BaseField.numbering E.ExtensionField.extension) (Ok result) (S.Sponge.held sponge.new) }
 {
     let mut x = E::zero();
-    // Kept: in a chain the closure would change the sponge, and then its answers are not known; the elements go by index.
+    // Kept: a `for`. A `fold` was tried: its closure changes the sponge, and nothing is known of what the sponge holds after it.
     for i in 0..E::degree() {
         x = x.with_coefficient(i, draw_base::<F, S>(sponge));
     }

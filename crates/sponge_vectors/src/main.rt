@@ -18,12 +18,12 @@ use std::io::{BufRead, BufReader};
 mod replay;
 
 fn replay_line(rt: &HostRuntime, line: &str, tally: &mut Tally) -> anyhow::Result<bool> {
-    match line.split_once(' ') {
-        Some(("sponge", rest)) => match rest.split_once(' ') {
-            Some(("archive", calls)) => replay::<ArchiveSponge>(rt.alloc(), (), calls, tally),
-            Some(("trial", calls)) => replay::<TrialSponge>(rt.alloc(), (), calls, tally),
-            _ => Ok(false),
-        },
+    let Some(("sponge", rest)) = line.split_once(' ') else {
+        return Ok(false);
+    };
+    match rest.split_once(' ') {
+        Some(("archive", calls)) => replay::<ArchiveSponge>(rt.alloc(), (), calls, tally),
+        Some(("trial", calls)) => replay::<TrialSponge>(rt.alloc(), (), calls, tally),
         _ => Ok(false),
     }
 }
@@ -50,7 +50,8 @@ fn show_element<F: BaseField, E: ExtensionField<F>, S: Sponge + Drop>(
 ) -> anyhow::Result<()> {
     let mut sponge = S::make(seed);
     let x = draw_extension::<F, E, S>(&mut sponge);
-    // Kept: a list of the coefficients would be made only to go over it; an element tells them one by one.
+    // Kept: by index, since a trait answers no `impl Iterator`: an iterator over the coefficients would be a type of its own, and
+    // count the same index.
     for j in 0..E::degree() {
         let c = x.coefficient(j).number();
         print!(rt; " {c}")?;

@@ -54,54 +54,6 @@ impl Stored for TrialSponge {
     }
 }
 
-// What the next word of a line has to be.
-#[derive(Clone, Copy, Debug, PartialEq, Eq)]
-enum Due {
-    Call,
-    Bytes,
-    Word,
-    Kind,
-    State,
-    End,
-}
-
-// What is due after a word, or nothing where the word disagrees.
-fn step<S: Stored>(
-    heap: Global,
-    sponge: &mut S,
-    due: Due,
-    word: &str,
-    tally: &mut Tally,
-) -> anyhow::Result<Option<Due>> {
-    Ok(match due {
-        Due::Call => call_named(word),
-        Due::Bytes => {
-            let Some(bytes) = from_hex(heap, word)? else {
-                return Ok(None);
-            };
-            tally.observes = tally.observes.saturating_add(1);
-            sponge.observe(&bytes);
-            Some(Due::Call)
-        }
-        Due::Word => {
-            tally.draws = tally.draws.saturating_add(1);
-            (sponge.draw() == word.parse::<u32>()?).then_some(Due::Call)
-        }
-        Due::Kind => (word == S::NAME).then_some(Due::State),
-        Due::State => sponge.is_at(heap, word)?.then_some(Due::End),
-        Due::End => None,
-    })
-}
-
-fn call_named(word: &str) -> Option<Due> {
-    match word {
-        "observe" => Some(Due::Bytes),
-        "draw" => Some(Due::Word),
-        "after" => Some(Due::Kind),
-        _ => None,
-    }
-}
-
 /// Makes the calls on a new sponge, and says whether all that the line states came out.
 pub(crate) fn replay<S: Stored + Drop>(
     heap: Global,
@@ -110,12 +62,30 @@ pub(crate) fn replay<S: Stored + Drop>(
     tally: &mut Tally,
 ) -> anyhow::Result<bool> {
     let mut sponge = S::make(seed);
-    let mut due = Due::Call;
-    for word in calls.split(' ') {
-        let Some(next) = step(heap, &mut sponge, due, word, tally)? else {
-            return Ok(false);
-        };
-        due = next;
+    let mut words = calls.split(' ');
+    while let (Some(call), Some(word)) = (words.next(), words.next()) {
+        match call {
+            "observe" => {
+                let Some(bytes) = from_hex(heap, word)? else {
+                    return Ok(false);
+                };
+                tally.observes = tally.observes.saturating_add(1);
+                sponge.observe(&bytes);
+            }
+            "draw" => {
+                tally.draws = tally.draws.saturating_add(1);
+                if sponge.draw() != word.parse::<u32>()? {
+                    return Ok(false);
+                }
+            }
+            "after" => {
+                let Some(state) = words.next() else {
+                    return Ok(false);
+                };
+                return Ok(word == S::NAME && sponge.is_at(heap, state)? && words.next().is_none());
+            }
+            _ => return Ok(false),
+        }
     }
-    Ok(due == Due::End)
+    Ok(false)
 }

@@ -18,3 +18,10 @@ pub fn number(word: &[u8]) -> Option<u64>
     }
     Some(value)
 }
+
+// The number that a text is, by the same rule.
+pub fn parse(word: &str) -> Option<usize>
+    ensures { result ≡ option_map (min largest) (decimal_of word.now) }
+{
+    number(word.as_bytes()).map(|n| n as usize)
+}

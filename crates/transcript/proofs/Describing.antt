@@ -1,5 +1,5 @@
 -- The steps of a round and of the final phase, put together from what each call observes.
-use Rattle.std.proofs.Common.{◌≡◌, ℕ, zero, suc, ◌+◌, ◌-◌, ◌*◌, ◌%◌, ◌^◌, ◌<◌, Bool, true, false, List, [], ◌∷◌, ◌++◌, map, length, get_or, Some, slice_get, sym, refl, ap, ◌∙◌, add-one, arith}
+use Rattle.std.proofs.Common.{◌≡◌, ℕ, zero, suc, ◌+◌, ◌-◌, ◌*◌, ◌%◌, ◌^◌, ◌<◌, Bool, true, false, List, [], ◌∷◌, ◌++◌, map, length, get_or, Some, None, Option, unwrap_or, slice_get, sym, refl, ap, ◌∙◌, add-one, arith}
 use Rattle.std.specs.List.{flat_map}
 use mir.Val.{bool_byte}
 use Rattle.std.proofs.lemmas.Nat.{one_shl}
@@ -13,13 +13,14 @@ use Rattle.transcript.specs.Bytes.{eight}
 use Rattle.transcript.specs.Depths.{depths}
 use Rattle.transcript.specs.Steps.{Step, step_bytes, commitment_step, drawn_step, sent_step, bracket, indices_step}
 use Rattle.transcript.specs.Shape.{shape, round_shape, difficulty, last_phase}
-use Rattle.transcript.specs.Sites.{Site, phase_of}
+use Rattle.transcript.specs.Sites.{Site, phase_of, draws_of}
 use Rattle.transcript.specs.Pattern.{sample_steps, grinding_steps, query_steps, closing_steps, round_steps, final_steps, pattern}
 use Rattle.transcript.specs.Instances.{instance_bytes, instances, first_numbers, domain_instances, strategy_numbers, round_numbers, flag}
 use Rattle.transcript.specs.Opening.{taken}
 use Rattle.transcript.specs.declared.interaction.Label.{Label}
 use Rattle.transcript.specs.declared.interaction.Label.TheVariants.{QueryPow, QueryIndices, RoundBatching, RoundFold, FinalPoly, FinalQueryPow, FinalQueryIndices, InitialFold}
-use Rattle.transcript.specs.declared.sites.QuerySite.{QuerySite}
+use Rattle.transcript.specs.declared.query.QuerySite.{QuerySite}
+use Rattle.transcript.proofs.Summing.{no_depth}
 use Rattle.transcript.proofs.Taking.{taken_on, taken_as, taken_same, joined_push}
 
 -- one stratum more
@@ -32,13 +33,18 @@ stratum_more m s t u w d r bits ys l x h p q inv k =
     taken_as m step_bytes s u _ _ (taken_on m step_bytes s t u (query_steps true w d ys l) (indices_step (w - r) (2 ^ r) l ∷ []) inv (taken_same m step_bytes t u x _ k named))
     (sym (map-append (λ n. indices_step (w - n) (2 ^ n) l) ys (r ∷ [])))
 
+-- where nothing is drawn there is no step
+pub no_queries : (stratified : Bool) (w : ℕ) (o : Option ℕ) (l : Label) → o ≡ None → query_steps stratified w (unwrap_or o 0) (depths (unwrap_or o 0)) l ≡ []
+no_queries true w o l e = ap (map (λ t. indices_step (w - t) (2 ^ t) l)) (no_depth (unwrap_or o 0) (ap (λ x. unwrap_or x 0) e))
+no_queries false w o l e = ap (λ x. query_steps false w (unwrap_or x 0) (depths (unwrap_or x 0)) l) e
+
 abbrev of_round : ℕ → ℕ → ℕ → Bool → ℕ → ℕ → List Step
 of_round degree n b strata w d =
     commitment_step ∷ (sample_steps degree n ++ (grinding_steps b QueryPow ++ (query_steps strata w d (depths d) QueryIndices ++ (drawn_step degree RoundBatching ∷ bracket RoundFold))))
 
 pub round_taken : (m : Rules) (s a b c d e z : List ℕ) (N : Numbers) (degree i : ℕ) (r : RoundConfig) (q : QuerySite) → slice_get N.rounds i ≡ Some r → Site N i q
     → a ≡ taken m step_bytes s (commitment_step ∷ []) → b ≡ taken m step_bytes a (sample_steps degree r.ood_samples) → c ≡ taken m step_bytes b (grinding_steps q.pow_bits QueryPow)
-    → d ≡ taken m step_bytes c (query_steps N.strata q.index_bits q.draws (depths q.draws) QueryIndices)
+    → d ≡ taken m step_bytes c (query_steps N.strata q.index_bits (draws_of q) (depths (draws_of q)) QueryIndices)
     → e ≡ taken m step_bytes d (drawn_step degree RoundBatching ∷ []) → z ≡ taken m step_bytes e (bracket RoundFold)
     → z ≡ taken m step_bytes s (round_steps degree (round_shape N i))
 round_taken m s a b c d e z N degree i r q there site e1 e2 e3 e4 e5 e6 =
@@ -48,12 +54,12 @@ round_taken m s a b c d e z N degree i r q there site e1 e2 e3 e4 e5 e6 =
     taken_on m step_bytes s a z (commitment_step ∷ []) _ e1
     (taken_on m step_bytes a b z (sample_steps degree r.ood_samples) _ e2
     (taken_on m step_bytes b c z (grinding_steps q.pow_bits QueryPow) _ e3
-    (taken_on m step_bytes c d z (query_steps N.strata q.index_bits q.draws (depths q.draws) QueryIndices) _ e4
+    (taken_on m step_bytes c d z (query_steps N.strata q.index_bits (draws_of q) (depths (draws_of q)) QueryIndices) _ e4
     (taken_on m step_bytes d e z (drawn_step degree RoundBatching ∷ []) (bracket RoundFold) e5 e6)))) in
-    taken_as m step_bytes s z (of_round degree r.ood_samples q.pow_bits N.strata q.index_bits q.draws) (round_steps degree (round_shape N i)) whole
-    (ap (λ x. of_round degree x q.pow_bits N.strata q.index_bits q.draws) en
-    ∙ ap (λ x. of_round degree (round_at N i).ood_samples x N.strata q.index_bits q.draws) (site.hard ∙ ap (difficulty N) here)
-    ∙ ap (λ x. of_round degree (round_at N i).ood_samples (difficulty N i) N.strata x q.draws) (site.wide ∙ ap (log_positions_of N N.stored) here)
+    taken_as m step_bytes s z (of_round degree r.ood_samples q.pow_bits N.strata q.index_bits (draws_of q)) (round_steps degree (round_shape N i)) whole
+    (ap (λ x. of_round degree x q.pow_bits N.strata q.index_bits (draws_of q)) en
+    ∙ ap (λ x. of_round degree (round_at N i).ood_samples x N.strata q.index_bits (draws_of q)) (site.hard ∙ ap (difficulty N) here)
+    ∙ ap (λ x. of_round degree (round_at N i).ood_samples (difficulty N i) N.strata x (draws_of q)) (site.wide ∙ ap (log_positions_of N N.stored) here)
     ∙ ap (of_round degree (round_at N i).ood_samples (difficulty N i) N.strata (log_positions_of N N.stored i)) (site.drawn ∙ ap (draws N N.stored) here))
 
 abbrev of_final : ℕ → ℕ → ℕ → Bool → ℕ → ℕ → ℕ → List Step
@@ -62,7 +68,7 @@ of_final degree n b strata w d turns =
 
 pub final_taken : (m : Rules) (s a b c z : List ℕ) (N : Numbers) (degree n M claims : ℕ) (q : QuerySite) → M ≡ length N.rounds → Site N M q → n ≡ 2 ^ N.final_rounds
     → a ≡ taken m step_bytes s (sent_step degree n FinalPoly ∷ []) → b ≡ taken m step_bytes a (grinding_steps q.pow_bits FinalQueryPow)
-    → c ≡ taken m step_bytes b (query_steps N.strata q.index_bits q.draws (depths q.draws) FinalQueryIndices)
+    → c ≡ taken m step_bytes b (query_steps N.strata q.index_bits (draws_of q) (depths (draws_of q)) FinalQueryIndices)
     → z ≡ taken m step_bytes c (closing_steps N.final_rounds)
     → z ≡ taken m step_bytes s (final_steps degree (shape N claims))
 final_taken m s a b c z N degree n M claims q em site en e1 e2 e3 e4 =
@@ -70,11 +76,11 @@ final_taken m s a b c z N degree n M claims q em site en e1 e2 e3 e4 =
     let whole =
     taken_on m step_bytes s a z (sent_step degree n FinalPoly ∷ []) _ e1
     (taken_on m step_bytes a b z (grinding_steps q.pow_bits FinalQueryPow) _ e2
-    (taken_on m step_bytes b c z (query_steps N.strata q.index_bits q.draws (depths q.draws) FinalQueryIndices) (closing_steps N.final_rounds) e3 e4)) in
-    taken_as m step_bytes s z (of_final degree n q.pow_bits N.strata q.index_bits q.draws N.final_rounds) (final_steps degree (shape N claims)) whole
-    (ap (λ x. of_final degree x q.pow_bits N.strata q.index_bits q.draws N.final_rounds) en
-    ∙ ap (λ x. of_final degree (2 ^ N.final_rounds) x N.strata q.index_bits q.draws N.final_rounds) (site.hard ∙ ap (difficulty N) here)
-    ∙ ap (λ x. of_final degree (2 ^ N.final_rounds) (difficulty N (last_phase N)) N.strata x q.draws N.final_rounds) (site.wide ∙ ap (log_positions_of N N.stored) here)
+    (taken_on m step_bytes b c z (query_steps N.strata q.index_bits (draws_of q) (depths (draws_of q)) FinalQueryIndices) (closing_steps N.final_rounds) e3 e4)) in
+    taken_as m step_bytes s z (of_final degree n q.pow_bits N.strata q.index_bits (draws_of q) N.final_rounds) (final_steps degree (shape N claims)) whole
+    (ap (λ x. of_final degree x q.pow_bits N.strata q.index_bits (draws_of q) N.final_rounds) en
+    ∙ ap (λ x. of_final degree (2 ^ N.final_rounds) x N.strata q.index_bits (draws_of q) N.final_rounds) (site.hard ∙ ap (difficulty N) here)
+    ∙ ap (λ x. of_final degree (2 ^ N.final_rounds) (difficulty N (last_phase N)) N.strata x (draws_of q) N.final_rounds) (site.wide ∙ ap (log_positions_of N N.stored) here)
     ∙ ap (λ x. of_final degree (2 ^ N.final_rounds) (difficulty N (last_phase N)) N.strata (log_positions_of N N.stored (last_phase N)) x N.final_rounds) (site.drawn ∙ ap (draws N N.stored) here))
 
 -- a flag's byte

@@ -1,5 +1,5 @@
 -- Positions drawn one after another.
-use Rattle.std.proofs.Common.{◌≡◌, ℕ, zero, suc, ◌+◌, ◌-◌, ◌*◌, ◌%◌, ◌^◌, ◌<◌, ◌≤◌, Bool, cond, eqb, List, [], ◌∷◌, ◌++◌, length, take, set, Ok, sym, refl, ap, ◌∙◌, subst, arith}
+use Rattle.std.proofs.Common.{◌≡◌, ◌≢◌, ℕ, zero, suc, ◌+◌, ◌-◌, ◌*◌, ◌%◌, ◌^◌, ◌<◌, ◌≤◌, Bool, cond, eqb, List, [], ◌∷◌, ◌++◌, length, take, set, Ok, Some, Option, unwrap_or, sym, refl, ap, ◌∙◌, subst, arith}
 use Rattle.std.proofs.lemmas.List.{take_more_set, nil_from_length}
 use Rattle.std.proofs.lemmas.Nat.{one_shl}
 use Rattle.std.proofs.lemmas.Bool.{cond-false, ne_eqb}
@@ -93,3 +93,7 @@ positions_some m s t stratified kind w zero n out h e pn f = absurd (h refl)
 positions_some m s t stratified kind w (suc d) n out h e pn f =
     let same : n ≡ suc d = pn ∙ cond-false (eqb (suc d) 0) (2 ^ w) (suc d) (ne_eqb (suc d) 0 h) in
     subst (λ b. Plays m s (some_drawn b w (suc d)) (Ok out) t) (sym e) (subst (λ k. Plays m s (some_drawn kind w k) (Ok out) t) same f)
+
+-- where some are drawn, there are some
+pub some_there : (o : Option ℕ) (d : ℕ) → o ≡ Some d → o ≢ Some 0 → unwrap_or o 0 ≢ 0
+some_there o d is none e = none (is ∙ ap Some (sym (ap (λ x. unwrap_or x 0) is) ∙ e))

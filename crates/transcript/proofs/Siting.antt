@@ -1,31 +1,19 @@
 -- What a checked configuration says of a phase's queries.
-use Rattle.std.proofs.Common.{◌≡◌, ℕ, zero, suc, ◌+◌, ◌-◌, ◌*◌, ◌%◌, ◌^◌, ◌<◌, ◌≤◌, min, Bool, true, cond, not, ◌&&◌, eqb, leb, List, [], ◌∷◌, map, length, get_or, take, is_some, Some, None, sum, Option, sym, refl, ap, ◌∙◌, subst, ⊎_elim, add-one, arith, pow_pos}
+use Rattle.std.proofs.Common.{◌≡◌, ◌≢◌, unwrap_or, ℕ, zero, suc, ◌*◌, ◌%◌, ◌^◌, ◌<◌, ◌≤◌, Bool, true, cond, not, ◌&&◌, eqb, leb, List, [], ◌∷◌, map, length, get_or, is_some, Some, None, Option, sym, refl, ap, ◌∙◌, subst, ⊎_elim, arith, pow_pos}
 use Rattle.parameters.specs.Refusals.{Refusal}
 use Rattle.configuration.specs.Limits.{within_limits, sizes_within, difficulties_within, others_within, lists_within, round_within, all_by, at_most, factors_of}
 use Rattle.configuration.specs.declared.whir_parameters.RoundConfig.{RoundConfig}
 use Rattle.configuration.proofs.Phased.{checked}
 use Rattle.std.proofs.lemmas.Nat.{one_shl}
 use Rattle.std.proofs.lemmas.List.{get_or_past, get_or-map, length-map}
-use Rattle.std.proofs.lemmas.Bool.{and_parts, cases_lt, cases_Bool, cond-true, cond-false, leb-true, leb-false, eqb-true}
+use Rattle.std.proofs.lemmas.Bool.{and_parts, cases_lt, cases_Bool, cond-true, cond-false, leb-true, leb-false, eqb-true, ne_eqb}
 use Rattle.configuration.specs.Numbers.{Numbers}
-use Rattle.configuration.specs.Phases.{no_round, factor, rate, left, log_positions_of, queries, draws, query_draws}
+use Rattle.configuration.specs.Phases.{no_round, factor, log_positions_of, queries, draws, drawn, query_draws}
 use Rattle.configuration.specs.Verdicts.{fault, flawless}
 use Rattle.transcript.specs.Shape.{difficulty}
-use Rattle.transcript.specs.Sites.{Site}
+use Rattle.transcript.specs.Sites.{Site, phase_of, draws_of}
+use Rattle.transcript.specs.declared.query.QuerySite.{QuerySite}
 use Rattle.configuration.proofs.Views.{in_order, first_domain}
-
--- the width of an index of a phase
-pub width_of : (N : Numbers) (i folded l r : ℕ) → flawless N ≡ true → i ≤ length N.rounds → folded ≡ sum (take (i + 1) N.stored)
-    → l ≡ N.variables - folded → r ≡ min (l + rate N i) 18446744073709551615 → (r ≡ log_positions_of N N.stored i) × (r ≤ 16)
-width_of N i folded l r flaw h f p q =
-    let ph = in_order N flaw in
-    let short : i < length N.stored = omega (arith, ph.rounds_so) in
-    let small = ph.fits i short in
-    let cap = ph.capacity_small in
-    let enough = ph.enough_positions i short in
-    let same_left : l ≡ left N N.stored (suc i) = p ∙ ap (λ x. N.variables - x) (f ∙ ap (λ k. sum (take k N.stored)) (add-one i)) in
-    let tight : left N N.stored (suc i) + rate N i ≤ 16 = omega arith in
-    (omega arith, omega arith)
 
 -- fewer are drawn than there are positions
 pub fewer : (n q : ℕ) → 0 < n → query_draws n q < n
@@ -84,23 +72,46 @@ easy N i flaw =
     (λ h. subst (λ x. x ≤ 30) (sym (get_or_past (map (λ (r : RoundConfig). r.pow_bits) N.rounds) i N.terminal.pow_bits (omega (arith, length-map N.rounds (λ (r : RoundConfig). r.pow_bits))))) (leb-true _ _ (and_parts (leb N.terminal.pow_bits 30) _ three).0))
     (cases_lt i (length N.rounds))
 
-pub sited : (N : Numbers) (i phase n w b q d : ℕ) → flawless N ≡ true → n ≡ length N.rounds → phase ≡ min i n → w ≡ log_positions_of N N.stored phase → w ≤ 16
-    → b ≡ difficulty N phase → q ≡ queries N phase → d ≡ query_draws (1 * 2 ^ w % 18446744073709551616) q
-    → Site N i (record { pow_bits = b; index_bits = w; draws = d })
-sited N i phase n w b q d flaw pn pp pw small pb pq pd =
-    let there : phase ≡ min i (length N.rounds) = omega arith in
-    let low : min i (length N.rounds) ≤ length N.rounds = omega arith in
-    let d_is : d ≡ query_draws (2 ^ w) q = pd ∙ ap (λ x. query_draws x q) (shifted w (omega arith)) in
-    let d_there : d ≡ draws N N.stored (min i (length N.rounds)) =
-    d_is ∙ ap (λ x. query_draws (2 ^ x) q) pw ∙ ap (query_draws (2 ^ log_positions_of N N.stored phase)) pq ∙ ap (draws N N.stored) there in
+-- the difficulty of the phase that a round names
+pub difficulty_there : (N : Numbers) (i : ℕ) → difficulty N i ≡ difficulty N (phase_of N i)
+difficulty_there N i =
+    ⊎_elim (λ h. ap (difficulty N) (omega arith))
+    (λ h. get_or_past (map (λ (r : RoundConfig). r.pow_bits) N.rounds) i N.terminal.pow_bits (omega (arith, length-map N.rounds (λ (r : RoundConfig). r.pow_bits)))
+    ∙ sym (get_or_past (map (λ (r : RoundConfig). r.pow_bits) N.rounds) (phase_of N i) N.terminal.pow_bits (omega (arith, length-map N.rounds (λ (r : RoundConfig). r.pow_bits)))))
+    (cases_lt i (length N.rounds))
+
+drawn_some : (d : ℕ) → drawn (suc d) ≡ Some (suc d)
+drawn_some d = cond-false (eqb (suc d) 0) None (Some (suc d)) (ne_eqb (suc d) 0 (λ e. omega arith))
+
+-- the draws as a number, and never a number 0 of them
+pub drawn_number : (d : ℕ) → unwrap_or (drawn d) 0 ≡ d
+drawn_number zero = refl
+drawn_number (suc d) = ap (λ o. unwrap_or o 0) (drawn_some d)
+
+pub drawn_not_none : (o : Option ℕ) (d : ℕ) → o ≡ drawn d → o ≢ Some 0
+drawn_not_none o zero e h = cc
+drawn_not_none o (suc d) e h = let there = sym (drawn_some d) ∙ sym e ∙ h in cc
+
+pub draws_there : (N : Numbers) (i w q : ℕ) (o : Option ℕ) → w ≡ log_positions_of N N.stored (phase_of N i) → q ≡ queries N (phase_of N i) → o ≡ drawn (query_draws (2 ^ w) q)
+    → unwrap_or o 0 ≡ draws N N.stored (phase_of N i)
+draws_there N i w q o pw pq po =
+    ap (λ x. unwrap_or x 0) po ∙ drawn_number (query_draws (2 ^ w) q) ∙ ap (λ x. query_draws (2 ^ x) q) pw
+    ∙ ap (query_draws (2 ^ log_positions_of N N.stored (phase_of N i))) pq
+
+pub draws_small : (N : Numbers) (i w q : ℕ) (o : Option ℕ) → flawless N ≡ true → w ≡ log_positions_of N N.stored (phase_of N i) → q ≡ queries N (phase_of N i)
+    → o ≡ drawn (query_draws (2 ^ w) q) → unwrap_or o 0 ≤ 1024
+draws_small N i w q o flaw pw pq po = subst (λ x. x ≤ 1024) (sym (draws_there N i w q o pw pq po)) (few_draws N (phase_of N i) flaw (omega arith))
+
+pub sited : (N : Numbers) (i q : ℕ) (s : QuerySite) → flawless N ≡ true → s.pow_bits ≡ difficulty N i → s.index_bits ≡ log_positions_of N N.stored (phase_of N i)
+    → q ≡ queries N (phase_of N i) → s.draws ≡ drawn (query_draws (2 ^ s.index_bits) q) → Site N i s
+sited N i q s flaw pb pw pq pd =
+    let number : draws_of s ≡ query_draws (2 ^ s.index_bits) q = ap (λ o. unwrap_or o 0) pd ∙ drawn_number (query_draws (2 ^ s.index_bits) q) in
     record {
-      hard = pb ∙ ap (difficulty N) there;
-      wide = pw ∙ ap (log_positions_of N N.stored) there;
-      drawn = d_there;
-      light = subst (λ x. x ≤ 30) (sym pb) (easy N phase flaw);
-      narrow = small;
-      few = subst (λ x. x < 2 ^ w) (sym d_is) (fewer (2 ^ w) q (pow_pos w));
-      small = subst (λ x. x ≤ 1024) (sym d_there) (few_draws N (min i (length N.rounds)) flaw low);
+      hard = pb ∙ difficulty_there N i;
+      wide = pw;
+      drawn = draws_there N i s.index_bits q s.draws pw pq pd;
+      light = subst (λ x. x ≤ 30) (sym pb) (easy N i flaw);
+      few = subst (λ x. x < 2 ^ s.index_bits) (sym number) (fewer (2 ^ s.index_bits) q (pow_pos s.index_bits));
     }
 
 pub factor_small : (N : Numbers) (i r : ℕ) → flawless N ≡ true → r ≡ factor N.stored i → r ≤ 10

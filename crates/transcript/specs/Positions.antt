@@ -1,5 +1,5 @@
 -- The positions that a phase opens, as a play.
-use Rattle.std.specs.Prelude.{◌≡◌, ℕ, zero, suc, ◌+◌, ◌-◌, ◌*◌, ◌^◌, ◌<◌, ◌≤◌, Bool, true, false, cond, List, [], ◌∷◌, ◌++◌, length, take, drop, Ok, Err, Result, ◌==◌}
+use Rattle.std.specs.Prelude.{◌≡◌, ℕ, zero, suc, ◌+◌, ◌-◌, ◌*◌, ◌^◌, ◌<◌, ◌≤◌, Bool, true, false, cond, List, [], ◌∷◌, ◌++◌, length, drop, Ok, Err, Result, ◌==◌}
 use Rattle.std.specs.List.{AllByRecursion}
 use Rattle.sponge.specs.Play.{Rules, Play, done, ◌>>=◌, each, counted, read}
 use Rattle.sponge.specs.Plays.{Plays}
@@ -54,14 +54,14 @@ PositionsPlaced =
 abbrev pub opened_at : ℕ → ℕ → ℕ
 opened_at w d = cond (d == 0) (2 ^ w) d
 
--- A play's answer, so many numbers, is written into a buffer from a place on; the rest of the buffer stays.
-pub record Fills (m : Rules) (s : List ℕ) (p : Play ⊥ (List ℕ)) (t : List ℕ) (from n : ℕ) (before after : List ℕ) : Type 0 where
+-- A play's answer, so many numbers, is written into the first places of a buffer; the rest of the buffer stays.
+pub record Fills (m : Rules) (s : List ℕ) (p : Play ⊥ (List ℕ)) (t : List ℕ) (n : ℕ) (before after : List ℕ) : Type 0 where
   pub drawn : List ℕ
   pub count : length drawn ≡ n
   pub plays : Plays m s p (Ok drawn) t
-  pub filled : after ≡ take from before ++ (drawn ++ drop (from + n) before)
+  pub filled : after ≡ drawn ++ drop n before
 
--- The positions of a phase are drawn into a buffer from a place on, if it has room for them; else nothing happens.
-abbrev pub Indices : Rules → Numbers → ℕ → Result (Unit {0}) NoRoom → List ℕ → List ℕ → ℕ → List ℕ → List ℕ → Type 0
-Indices m N i (Ok _) s t from before after = (from + rows N N.stored i ≤ length before) × Fills m s (positions N i) t from (rows N N.stored i) before after
-Indices m N i (Err _) s t from before after = (length before < from + rows N N.stored i) × (t ≡ s) × (after ≡ before)
+-- The positions of a phase are drawn into the first places of a buffer, if it has room for them; else nothing happens.
+abbrev pub Indices : Rules → Numbers → ℕ → Result (Unit {0}) NoRoom → List ℕ → List ℕ → List ℕ → List ℕ → Type 0
+Indices m N i (Ok _) s t before after = (rows N N.stored i ≤ length before) × Fills m s (positions N i) t (rows N N.stored i) before after
+Indices m N i (Err _) s t before after = (length before < rows N N.stored i) × (t ≡ s) × (after ≡ before)

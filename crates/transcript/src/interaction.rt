@@ -86,19 +86,27 @@ impl Label {
 }
 
 impl Interaction {
+    // A step that stands alone, with no width, and of a single value.
+    fn atomic(kind: Kind, value: Value, label: Label) -> Interaction
+        ensures { result ≡ record { hierarchy = Hierarchy.Atomic; kind = kind; value = value; width = 0; length = 0; label = label } }
+    {
+        Interaction {
+            hierarchy: Hierarchy::Atomic,
+            kind,
+            value,
+            width: 0,
+            length: 0,
+            label,
+        }
+    }
+
     // The opener or closer of a sumcheck that is delegated.
-    //
-    // Kept: here and below a step is written with its six fields named, which is plainer than a call with as many arguments in a row.
     pub fn marker(hierarchy: Hierarchy, label: Label) -> Interaction
         ensures { step_of result ≡ marker hierarchy label }
     {
         Interaction {
             hierarchy,
-            kind: Kind::Protocol,
-            value: Value::Marker,
-            width: 0,
-            length: 0,
-            label,
+            ..Interaction::atomic(Kind::Protocol, Value::Marker, label)
         }
     }
 
@@ -106,14 +114,7 @@ impl Interaction {
     pub fn commitment() -> Interaction
         ensures { step_of result ≡ commitment_step }
     {
-        Interaction {
-            hierarchy: Hierarchy::Atomic,
-            kind: Kind::Message,
-            value: Value::Opaque,
-            width: 0,
-            length: 0,
-            label: Label::Commitment,
-        }
+        Interaction::atomic(Kind::Message, Value::Opaque, Label::Commitment)
     }
 
     // One extension element is drawn.
@@ -121,12 +122,8 @@ impl Interaction {
         ensures { step_of result ≡ drawn_step degree label }
     {
         Interaction {
-            hierarchy: Hierarchy::Atomic,
-            kind: Kind::Challenge,
-            value: Value::Extension,
             width: degree,
-            length: 0,
-            label,
+            ..Interaction::atomic(Kind::Challenge, Value::Extension, label)
         }
     }
 
@@ -135,12 +132,9 @@ impl Interaction {
         ensures { step_of result ≡ sent_step degree length label }
     {
         Interaction {
-            hierarchy: Hierarchy::Atomic,
-            kind: Kind::Message,
-            value: Value::Extension,
             width: degree,
             length,
-            label,
+            ..Interaction::atomic(Kind::Message, Value::Extension, label)
         }
     }
 
@@ -149,12 +143,8 @@ impl Interaction {
         ensures { step_of result ≡ grinding_step bits label }
     {
         Interaction {
-            hierarchy: Hierarchy::Atomic,
-            kind: Kind::Pow,
-            value: Value::Base,
-            width: 0,
             length: bits,
-            label,
+            ..Interaction::atomic(Kind::Pow, Value::Base, label)
         }
     }
 
@@ -163,12 +153,9 @@ impl Interaction {
         ensures { step_of result ≡ indices_step width length label }
     {
         Interaction {
-            hierarchy: Hierarchy::Atomic,
-            kind: Kind::Challenge,
-            value: Value::Bits,
             width,
             length,
-            label,
+            ..Interaction::atomic(Kind::Challenge, Value::Bits, label)
         }
     }
 

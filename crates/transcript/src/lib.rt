@@ -1,6 +1,7 @@
 // The transcript of a WHIR run: its shape, the steps, the separator and the run itself.
 #![tactic(auto)]
 
+pub mod delegated;
 pub mod depths;
 pub mod failure;
 pub mod interaction;
@@ -8,5 +9,6 @@ pub mod laws;
 pub mod opening;
 pub mod piece;
 pub mod positions;
+pub mod query;
 pub mod run;
 pub mod sites;

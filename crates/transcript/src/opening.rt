@@ -8,6 +8,7 @@ ghost use Rattle.transcript.specs.Bytes.{eight};
 ghost use Rattle.transcript.specs.Depths.{depths};
 ghost use Rattle.transcript.specs.Steps.{step_bytes, step_of, bracket};
 ghost use Rattle.transcript.specs.Shape.{shape, round_shape};
+ghost use Rattle.transcript.specs.Sites.{draws_of};
 ghost use Rattle.transcript.specs.Pattern.{sample_steps, grinding_steps, query_steps, round_steps, final_steps};
 ghost use Rattle.transcript.specs.Instances.{instance_bytes, instances, domain_instances, strategy_numbers, round_numbers};
 ghost use Rattle.transcript.specs.Opening.{taken, opening};
@@ -15,7 +16,8 @@ ghost use Rattle.transcript.specs.Opening.{taken, opening};
 use crate::depths::Depths;
 use crate::interaction::{Hierarchy, Interaction, Label};
 use crate::piece::instance;
-use crate::sites::{QuerySite, factor_of, final_poly_len, query_site};
+use crate::query::QuerySite;
+use crate::sites::{factor_of, final_poly_len, query_site};
 use configuration::whir::WhirConfig;
 use configuration::whir_parameters::RoundConfig;
 use parameters::folding::FoldingFactor;
@@ -121,16 +123,19 @@ impl<'a> Description<'a> {
     }
 
     // The indices of a phase, unless it opens every position.
-    #[tactic(auto, unfolding(crate::specs::Opening::taken))]
+    #[tactic(auto, using(crate::proofs::Describing::no_queries), unfolding(crate::specs::Opening::taken))]
     fn observe_indices<S: Sponge>(&self, sponge: &mut S, site: QuerySite, label: Label)
-        ensures { S.Sponge.held sponge.new ≡ taken S.Sponge.rules step_bytes (S.Sponge.held sponge.old) (query_steps self.now.config.now.numbers.stratified_queries site.index_bits site.draws (depths site.draws) label) }
+        ensures { S.Sponge.held sponge.new ≡ taken S.Sponge.rules step_bytes (S.Sponge.held sponge.old) (query_steps self.now.config.now.numbers.stratified_queries site.index_bits (draws_of site) (depths (draws_of site)) label) }
     {
+        let Some(draws) = site.draws else {
+            return;
+        };
         if self.config.numbers.stratified_queries {
-            observe_strata(sponge, site.index_bits, site.draws, label);
-        } else if site.draws != 0 {
+            observe_strata(sponge, site.index_bits, draws, label);
+        } else {
             observe_step(
                 sponge,
-                Interaction::uniform_bits(site.index_bits, site.draws, label),
+                Interaction::uniform_bits(site.index_bits, draws, label),
             );
         }
     }

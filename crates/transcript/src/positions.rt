@@ -4,13 +4,13 @@ ghost use Rattle.sponge.specs.Play.{counted};
 ghost use Rattle.sponge.specs.Plays.{Plays};
 ghost use Rattle.configuration.specs.Numbers.{numbers_of};
 ghost use Rattle.transcript.specs.Depths.{depths};
-ghost use Rattle.transcript.specs.Sites.{phase_of};
+ghost use Rattle.transcript.specs.Sites.{phase_of, draws_of};
 ghost use Rattle.transcript.specs.Positions.{indices_drawn, strata_drawn, positions_at, opened_at, Indices, PositionsPlaced};
 
 use crate::depths::Depths;
 use crate::failure::NoRoom;
-use crate::sites::{QuerySite, query_site};
-use configuration::checks::rows_opened;
+use crate::query::QuerySite;
+use crate::sites::query_site;
 use configuration::whir::WhirConfig;
 use sponge::Sponge;
 use sponge::drawing::draw_bits;
@@ -26,6 +26,7 @@ fn fill_all(out: &mut [usize])
 }
 
 // An index of so many bits for each place, the j-th moved on by j strides.
+#[tactic(auto, using(crate::proofs::Filling::indices_begin))]
 fn draw_indices<S: Sponge>(sponge: &mut S, out: &mut [usize], bits: usize, stride: usize)
     requires few { length out.old ≤ 65536 }
     requires narrow { bits ≤ 16 }
@@ -38,54 +39,49 @@ fn draw_indices<S: Sponge>(sponge: &mut S, out: &mut [usize], bits: usize, strid
     }
 }
 
-// One index in each part, for each summand of the draws, of which there are as many as places: the highest first, then those of the rest.
+// One index in each part, for each summand of as many draws as places, no more than the site's: the highest first, then those of the rest.
 #[tactic(auto, using(crate::proofs::Summing::highest_small, crate::proofs::Summing::highest_taken, crate::proofs::Filling::strata_none))]
-fn draw_strata<S: Sponge>(sponge: &mut S, out: &mut [usize], width: usize)
-    requires few { length out.old ≤ 1024 }
-    requires narrow { width ≤ 16 }
-    ensures { Plays S.Sponge.rules (S.Sponge.held sponge.old) (strata_drawn width (depths (length out.old))) (Ok out.new) (S.Sponge.held sponge.new) }
+fn draw_strata<S: Sponge>(sponge: &mut S, out: &mut [usize], site: QuerySite)
+    requires { length out.old ≤ draws_of site }
+    ensures { Plays S.Sponge.rules (S.Sponge.held sponge.old) (strata_drawn site.index_bits (depths (length out.old))) (Ok out.new) (S.Sponge.held sponge.new) }
 {
     if let Some(depth) = Depths(out.len()).next() {
-        let bits = width.saturating_sub(depth);
+        let bits = site.index_bits.saturating_sub(depth);
         let (part, rest) = out.split_at_mut(1 << depth);
         draw_indices(sponge, part, bits, 1 << bits);
-        draw_strata(sponge, rest, width);
+        draw_strata(sponge, rest, site);
     }
 }
 
 // The positions of a phase, one for each place.
+#[tactic(auto, using(crate::proofs::Filling::positions_all))]
 fn draw_positions<S: Sponge>(sponge: &mut S, out: &mut [usize], site: QuerySite, stratified: bool)
-    requires count { length out.old ≡ opened_at site.index_bits site.draws }
-    requires few { site.draws ≤ 1024 }
-    requires narrow { site.index_bits ≤ 16 }
-    ensures { Plays S.Sponge.rules (S.Sponge.held sponge.old) (positions_at stratified site.index_bits site.draws) (Ok out.new) (S.Sponge.held sponge.new) }
+    requires { length out.old ≡ opened_at site.index_bits (draws_of site) }
+    ensures { Plays S.Sponge.rules (S.Sponge.held sponge.old) (positions_at stratified site.index_bits (draws_of site)) (Ok out.new) (S.Sponge.held sponge.new) }
 {
-    if site.draws == 0 {
-        fill_all(out);
-    } else if stratified {
-        draw_strata(sponge, out, site.index_bits);
-    } else {
-        draw_indices(sponge, out, site.index_bits, 0);
+    match site.draws {
+        None => fill_all(out),
+        Some(_) if stratified => draw_strata(sponge, out, site),
+        Some(_) => draw_indices(sponge, out, site.index_bits, 0),
     }
 }
 
-// Draws the positions of a round's phase into a slice, from a place on; where they have no room, nothing is drawn or written.
+// Draws the positions of a round's phase into the first places of a slice; where they have no room, nothing is drawn or written.
 pub(crate) fn redraw<S: Sponge>(
     sponge: &mut S,
     config: &WhirConfig,
     round: usize,
     out: &mut [usize],
-    from: usize,
 ) -> Result<(), NoRoom>
-    ensures { Indices S.Sponge.rules (numbers_of config.now.numbers) (phase_of (numbers_of config.now.numbers) round) result (S.Sponge.held sponge.old) (S.Sponge.held sponge.new) from out.old out.new }
+    ensures { Indices S.Sponge.rules (numbers_of config.now.numbers) (phase_of (numbers_of config.now.numbers) round) result (S.Sponge.held sponge.old) (S.Sponge.held sponge.new) out.old out.new }
 {
-    let site = query_site(config, round);
-    let rows = rows_opened(1 << site.index_bits, site.draws);
-    if rows > out.len().saturating_sub(from) {
+    let rows = config.positions(round).rows();
+    if rows > out.len() {
         return Err(NoRoom);
     }
     let stratified = config.numbers.stratified_queries;
-    draw_positions(sponge, &mut out[from..from + rows], site, stratified);
+    let site = query_site(config, round);
+    draw_positions(sponge, &mut out[..rows], site, stratified);
     Ok(())
 }
 

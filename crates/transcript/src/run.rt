@@ -1,6 +1,6 @@
 // A run that has been opened: its steps, and its end.
-ghost use Rattle.std.specs.Prelude.{◌≡◌, not, Ok, nat_eq};
-ghost use Rattle.sponge.specs.Play.{observe as observing, done as answering};
+ghost use Rattle.std.specs.Prelude.{◌≡◌, not, is_some, MatchOption, Ok, nat_eq};
+ghost use Rattle.sponge.specs.Play.{observe as observing};
 ghost use Rattle.sponge.specs.Plays.{Plays};
 ghost use Rattle.sponge.specs.Drawing.{draw_extension, observe_extension};
 ghost use Rattle.configuration.specs.Numbers.{numbers_of};
@@ -8,8 +8,9 @@ ghost use Rattle.transcript.specs.Shape.{difficulty};
 ghost use Rattle.transcript.specs.Sites.{phase_of};
 ghost use Rattle.transcript.specs.Opening.{opening};
 ghost use Rattle.transcript.specs.Positions.{Indices};
-ghost use Rattle.transcript.specs.Playing.{query_grinding, values_observed, final_values, canonical, nothing};
+ghost use Rattle.transcript.specs.Playing.{query_grinding, values_observed, final_values, canonical};
 
+use crate::delegated::Delegated;
 use crate::failure::{NoRoom, TranscriptFailure};
 use crate::opening::observe_separator;
 use crate::positions::redraw;
@@ -24,6 +25,9 @@ pub struct Run<'a> {
     config: &'a WhirConfig,
 }
 
+// Kept: the sponge is handed to each step. A `Run<'a, S>` that held it as `&'a mut S` was tried and proved, but it asks more of callers, who
+// could not read or use the sponge between two steps, and each of ten steps would promise two facts more: that the configuration stays, and
+// that the reference does.
 impl<'a> Run<'a> {
     // Opens a run: the separator of the configuration is observed.
     pub fn open<F: BaseField, E: ExtensionField<F>, S: Sponge>(
@@ -38,8 +42,9 @@ impl<'a> Run<'a> {
         Run { config }
     }
 
-    // Kept: the two ends of a run, the two challenges and the two brackets are steps of the original's own, told apart by their names.
     // Closes a run whose every step was played.
+    //
+    // Kept: `finish` and `abort` are the original's own two ends; one function for both would be told which end it is, and would not read it.
     pub fn finish(self) {
         let Run { config: _ } = self;
     }
@@ -57,6 +62,9 @@ impl<'a> Run<'a> {
     }
 
     // Draws one out-of-domain evaluation point.
+    //
+    // Kept: `ood_point` and `round_batching` are two steps of the original's own, each one call of the generic `draw_extension`; one function
+    // for both would be told which step it is, and would not read it.
     pub fn ood_point<F: BaseField, E: ExtensionField<F>, S: Sponge>(&self, sponge: &mut S) -> E
         ensures { Plays S.Sponge.rules (S.Sponge.held sponge.old) (draw_extension F.BaseField.numbering E.ExtensionField.extension) (Ok result) (S.Sponge.held sponge.new) }
     {
@@ -81,22 +89,44 @@ impl<'a> Run<'a> {
         draw_extension::<F, E, S>(sponge)
     }
 
-    // The bracket of the sumcheck that opens the run: nothing is observed or drawn.
-    pub fn delegate_initial_fold<S: Sponge>(&self, sponge: &mut S)
-        ensures { Plays S.Sponge.rules (S.Sponge.held sponge.old) nothing (Ok tt) (S.Sponge.held sponge.new) }
-    {}
-
-    // The bracket of the sumcheck that closes one intermediate round.
-    pub fn delegate_round_fold<S: Sponge>(&self, sponge: &mut S)
-        ensures { Plays S.Sponge.rules (S.Sponge.held sponge.old) nothing (Ok tt) (S.Sponge.held sponge.new) }
-    {}
-
-    // The bracket of the sumcheck that closes the run: whether there is one.
-    pub fn delegate_final_fold<S: Sponge>(&self, sponge: &mut S) -> bool
-        ensures fold { result ≡ not (nat_eq self.now.config.now.numbers.final_sumcheck_rounds 0) }
-        ensures plays { Plays {R = ⊥} S.Sponge.rules (S.Sponge.held sponge.old) (answering result) (Ok result) (S.Sponge.held sponge.new) }
+    // Runs the sumcheck that opens the run. Its bracket observes and draws nothing.
+    //
+    // Kept: `delegate_initial_fold` and `delegate_round_fold` are two brackets of the original's own, each one call of what is delegated; one
+    // function for both would be told which bracket it is, and would not read it.
+    pub fn delegate_initial_fold<S: Sponge, D: Delegated<S>>(
+        &self,
+        sponge: &mut S,
+        initial_fold: D,
+    ) -> D::Answer
+        ensures { D.Delegated.runs initial_fold (S.Sponge.held sponge.old) result (S.Sponge.held sponge.new) }
     {
-        self.config.numbers.final_sumcheck_rounds != 0
+        initial_fold.run(sponge)
+    }
+
+    // Runs the sumcheck that closes one intermediate round. Its bracket observes and draws nothing.
+    pub fn delegate_round_fold<S: Sponge, D: Delegated<S>>(
+        &self,
+        sponge: &mut S,
+        round_fold: D,
+    ) -> D::Answer
+        ensures { D.Delegated.runs round_fold (S.Sponge.held sponge.old) result (S.Sponge.held sponge.new) }
+    {
+        round_fold.run(sponge)
+    }
+
+    // Runs the sumcheck that closes the run, if there is one: where it has no rounds, nothing is run, observed or drawn.
+    pub fn delegate_final_fold<S: Sponge, D: Delegated<S> + Drop>(
+        &self,
+        sponge: &mut S,
+        final_fold: D,
+    ) -> Option<D::Answer>
+        ensures fold { is_some result ≡ not (nat_eq self.now.config.now.numbers.final_sumcheck_rounds 0) }
+        ensures runs { MatchOption result (sponge.new ≡ sponge.old) (λ answer. D.Delegated.runs final_fold (S.Sponge.held sponge.old) answer (S.Sponge.held sponge.new)) }
+    {
+        if self.config.numbers.final_sumcheck_rounds == 0 {
+            return None;
+        }
+        Some(final_fold.run(sponge))
     }
 
     // Replays the grind of the query site of a round.
@@ -116,7 +146,7 @@ impl<'a> Run<'a> {
         }
     }
 
-    // Redraws the query indices of a round into a slice, from a place on; where they have no room, nothing is drawn or written.
+    // Redraws the query indices of a round into the first places of a slice; where they have no room, nothing is drawn or written.
     //
     // A round at or past the last one names the final site.
     pub fn query_indices<S: Sponge>(
@@ -124,11 +154,10 @@ impl<'a> Run<'a> {
         sponge: &mut S,
         round: usize,
         out: &mut [usize],
-        from: usize,
     ) -> Result<(), NoRoom>
-        ensures { Indices S.Sponge.rules (numbers_of self.now.config.now.numbers) (phase_of (numbers_of self.now.config.now.numbers) round) result (S.Sponge.held sponge.old) (S.Sponge.held sponge.new) from out.old out.new }
+        ensures { Indices S.Sponge.rules (numbers_of self.now.config.now.numbers) (phase_of (numbers_of self.now.config.now.numbers) round) result (S.Sponge.held sponge.old) (S.Sponge.held sponge.new) out.old out.new }
     {
-        redraw(sponge, self.config, round, out, from)
+        redraw(sponge, self.config, round, out)
     }
 
     // Binds the final polynomial the proof carries, if it has as many values as were described.

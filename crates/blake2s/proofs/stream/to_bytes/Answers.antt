@@ -1,19 +1,16 @@
-use Rattle.std.proofs.Common.{◌≡◌, ◌∙◌, sym, arith, rules}
-use Rattle.std.proofs.lemmas.List.{take_all}
-use Rattle.std.proofs.lemmas.Slice.{overwrites}
-use Rattle.blake2s.specs.Blake2s.{digest}
-use Rattle.blake2s.proofs.Digests.{word_written}
+use Rattle.std.proofs.Common.{◌≡◌, ◌/◌, ◌%◌, get_or, ◌∙◌, w32, arith, rules}
+use Rattle.std.specs.Int.{to_le_bytes}
+use Rattle.blake2s.specs.Blake2s.{digest, byte_at}
+use Rattle.blake2s.proofs.Made.{made}
+use Rattle.blake2s.proofs.Digests.{byte_in_word}
 use Rattle.blake2s.proofs.stream.to_bytes.Goals as goal
 
-pub loop-i-preserved : goal.loop-i-preserved
-loop-i-preserved c = (
-  search (rules, overwrites),
-  word_written c.loop-i.out c.args.h _ c.loop-i.i _ c.loop-i.invariant.1 (omega arith)
-      (c.copy_from_slice.ensures.after ∙ c.to_le_bytes.ensures),
-)
-
 pub returns : goal.returns
-unfolding digest
+unfolding digest byte_at
 returns c =
-    let all : c.loop-i.i ≡ 8 = omega arith in
-    sym (take_all 32 c.loop-i.out (omega arith)) ∙ rw all at c.loop-i.invariant.1
+    let h = c.args.h in
+    made _ (byte_at h) _ 32
+    (λ k y q lt call.
+    let read : y ≡ get_or (to_le_bytes w32 (get_or h (k / 4) 0)) (k % 4) 0 = search rules in
+    (read ∙ byte_in_word (get_or h (k / 4) 0) (k % 4) (omega arith), search rules))
+    c.from_fn.result c.from_fn.ensures.items

@@ -1,14 +1,14 @@
-use Rattle.std.proofs.Common.{ℕ, eqb, ◌∙◌, rules, tests}
-use Rattle.std.proofs.lemmas.Iterator.{YieldsList-from_slice, YieldsList-from_zip}
-use Rattle.std.proofs.lemmas.Iterator.Search.{all_from_yields_List}
+use Rattle.std.proofs.Common.{rules, tests}
+use Rattle.std.proofs.lemmas.Iterator.{YieldsList-from_slice, YieldsList-from_map}
+use Rattle.std.proofs.lemmas.Iterator.Consumers.{YieldsList-from_copied}
 use Rattle.configuration.specs.declared.whir_parameters.RoundConfig.{RoundConfig}
-use Rattle.configuration.proofs.Walks.{listed_same}
+use Rattle.configuration.specs.Phases.{rates_of}
+use Rattle.configuration.proofs.Equal.{eq_from_yields_List}
 use Rattle.configuration.proofs.checks.rates_listed.Goals as goal
 
-pub returns-then-listed-rounds : goal.returns-then-listed-rounds
-returns-then-listed-rounds c =
-    all_from_yields_List (λ (p : ℕ × RoundConfig). eqb p.0 p.1.log_inv_rate) c.all.new.self _ _ c.all.ensures.ran
-    (YieldsList-from_zip (YieldsList-from_slice {s = c.zip-pairs.result.a} c.args.listed.now (cc))
-    (YieldsList-from_slice {s = c.zip-pairs.result.b} c.args.rounds.now (cc)))
-    (λ x b q k. search (rules, tests))
-    ∙ listed_same c.args.listed.now c.args.rounds.now c.if-listed-rounds.true
+pub returns : goal.returns
+returns c =
+    eq_from_yields_List c.args.listed.now (rates_of c.args.rounds.now) c.eq.result c.eq.ensures.ran
+    (YieldsList-from_copied {s = c.copied.result} (YieldsList-from_slice {s = c.copied.result.iter} c.args.listed.now (cc)))
+    (YieldsList-from_map _ (λ (r : RoundConfig). r.log_inv_rate) (YieldsList-from_slice {s = c.map-rates.result.iter} c.args.rounds.now (cc))
+    c.map-rates.ensures.closure (λ x r q k. search (rules, tests)))

@@ -1,4 +1,4 @@
-use Rattle.std.proofs.Common.{arith}
+use Rattle.std.proofs.Common.{◌/◌, length, arith}
 use Rattle.multilinear.proofs.Loops.{bind_none, bind_more, bind_all}
 use Rattle.multilinear.proofs.evaluation.bind_first.Goals as goal
 
@@ -13,5 +13,5 @@ loop-i-preserved g c =
 pub returns : goal.returns
 returns g c =
     let split = c.split_at_mut-front.ensures in
-    bind_all g.F.Field.ops g.met.F.Field.lawful.ring c.args.r c.args.scratch.now _ _ c.loop-i.front c.args.half c.loop-i.i
+    bind_all g.F.Field.ops g.met.F.Field.lawful.ring c.args.r c.args.table.now _ _ c.loop-i.front (length c.args.table.now / 2) c.loop-i.i
     (omega arith) split.front split.back split.front_len (omega arith) (omega arith) (omega arith) c.loop-i.invariant

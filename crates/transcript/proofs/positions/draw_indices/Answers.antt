@@ -1,9 +1,6 @@
 use Rattle.std.proofs.Common.{◌<◌, length, arith}
-use Rattle.transcript.proofs.Filling.{indices_begin, index_more}
+use Rattle.transcript.proofs.Filling.{index_more}
 use Rattle.transcript.proofs.positions.draw_indices.Goals as goal
-
-pub loop-j-init : goal.loop-j-init
-loop-j-init g c = indices_begin _ _ _ _
 
 pub loop-j-preserved : goal.loop-j-preserved
 loop-j-preserved g c =

@@ -1,18 +1,14 @@
-use Rattle.std.proofs.Common.{true, false, sym, subst, Ok}
-use Rattle.sponge.specs.Plays.{Plays}
-use Rattle.transcript.specs.Positions.{positions_at}
-use Rattle.transcript.proofs.Filling.{positions_all, positions_some}
+use Rattle.std.proofs.Common.{true, false}
+use Rattle.transcript.specs.Sites.{draws_of}
+use Rattle.transcript.proofs.Filling.{positions_some, some_there}
 use Rattle.transcript.proofs.positions.draw_positions.Goals as goal
 
-pub returns-then-site-eq0 : goal.returns-then-site-eq0
-returns-then-site-eq0 g c =
-    subst (λ ys. Plays g.S.Sponge.rules (g.S.Sponge.held c.args.sponge.now) (positions_at c.args.stratified c.args.site.index_bits c.args.site.draws) (Ok ys) (g.S.Sponge.held c.args.sponge.now))
-    (sym c.fill_all.ensures) (positions_all g.S.Sponge.rules _ c.args.stratified c.args.site.index_bits c.args.site.draws _ c.if-site-eq0.true c.requires.count)
+pub returns-in-Some : goal.returns-in-Some
+returns-in-Some g c =
+    positions_some g.S.Sponge.rules _ _ c.args.stratified true c.args.site.index_bits (draws_of c.args.site) _ _ (some_there c.args.site.draws _ c.in-Some.is c.args.site.some)
+    c.if-stratified.true c.requires c.draw_strata.ensures
 
-pub returns-then-stratified : goal.returns-then-stratified
-returns-then-stratified g c =
-    positions_some g.S.Sponge.rules _ _ c.args.stratified true c.args.site.index_bits c.args.site.draws _ _ c.if-site-eq0.false c.if-stratified.true c.requires.count c.draw_strata.ensures
-
-pub returns-else-stratified : goal.returns-else-stratified
-returns-else-stratified g c =
-    positions_some g.S.Sponge.rules _ _ c.args.stratified false c.args.site.index_bits c.args.site.draws _ _ c.if-site-eq0.false c.if-stratified.false c.requires.count c.draw_indices.ensures
+pub returns-in-Some-2 : goal.returns-in-Some-2
+returns-in-Some-2 g c =
+    positions_some g.S.Sponge.rules _ _ c.args.stratified false c.args.site.index_bits (draws_of c.args.site) _ _ (some_there c.args.site.draws _ c.in-Some-2.is c.args.site.some)
+    c.if-stratified.false c.requires c.draw_indices.ensures

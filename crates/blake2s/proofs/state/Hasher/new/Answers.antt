@@ -1,4 +1,4 @@
-use Rattle.std.proofs.Common.{refl, arith}
+use Rattle.std.proofs.Common.{length, refl, ap, arith}
 use Rattle.blake2s.specs.Blake2s.{chain}
 use Rattle.blake2s.proofs.state.Hasher.new.Goals as goal
 
@@ -7,6 +7,6 @@ unfolding chain
 returns c =
     record {
       blocks = 0;
-      cut = record { state = refl; counted = refl; waits = refl; whole = refl };
+      cut = record { state = refl; counted = refl; waits = c.new.ensures; whole = omega (arith, ap length c.new.ensures) };
       held = λ h. omega (arith, h);
     }

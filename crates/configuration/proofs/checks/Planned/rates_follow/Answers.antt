@@ -1,16 +1,12 @@
-use Rattle.std.proofs.Common.{vec_items, ap, ◌∙◌, rules, tests}
-use Rattle.std.proofs.lemmas.Iterator.{YieldsList-from_slice, YieldsList-from_zip}
-use Rattle.std.proofs.lemmas.Iterator.Consumers.{YieldsList-from_first}
+use Rattle.std.proofs.Common.{rules, tests}
 use Rattle.std.proofs.lemmas.Iterator.Search.{all_from_yields_List}
 use Rattle.configuration.specs.Numbers.{numbers_of}
-use Rattle.configuration.specs.Walk.{phases, phases_left, pair_follows}
+use Rattle.configuration.specs.Walk.{pair_follows}
+use Rattle.configuration.proofs.Walks.{YieldsList-from_paired}
 use Rattle.configuration.proofs.checks.Planned.rates_follow.Goals as goal
 
 pub returns : goal.returns
 returns c =
-    let w = c.args.self.now.numbers.now in
     all_from_yields_List pair_follows c.all.new.self _ _ c.all.ensures.ran
-    (YieldsList-from_zip
-    (YieldsList-from_first (λ p. p) phases_left {s = c.zip.result.a} (phases (numbers_of w) c.args.self.now.schedule.now) (ap phases_left c.zip.ensures.first ∙ c.phases.ensures))
-    (YieldsList-from_slice {s = c.zip.result.b} (vec_items w.round_parameters) (cc)))
+    (YieldsList-from_paired (numbers_of c.args.self.now.numbers.now) c.args.self.now.schedule.now c.paired.ensures.phases c.paired.ensures.rounds)
     (λ x b q k. search (rules, tests))
