@@ -31,7 +31,8 @@ const SIGMA: [[u8; 16]; 10] = [
 
 // Kept: the places and the words of a mixing are parameters, as the standard has them in G(v, a, b, c, d, x, y). With structs
 // the first of a round would be `mix(v, Places { a: 0, b: 4, c: 8, d: 12 }, Pair { x: message(m, r, 0), y: message(m, r, 1) })`,
-// and `add(v, a, b, x)` would be `add(v, p.a, p.b, w.x)`: each of the eight steps takes two of the places and at most one word.
+// and `add(v, a, b, x)` would be `add(v, p.a, p.b, w.x)`: each of the eight steps takes two of the places and at most one word. A
+// type of numbers below 16 would be made at each of the 32 places that a round writes out.
 // v[a] becomes v[a] + v[b] + x.
 #[inline(always)]
 #[tactic(auto, unfolding(crate::specs::Compress::added))]

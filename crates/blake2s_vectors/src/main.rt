@@ -68,8 +68,7 @@ fn feed(hasher: &mut Hasher, done: usize, n: usize)
     ensures { (xs : List ℕ) → Absorbed hasher.old xs → Absorbed hasher.new (xs ++ bytes_from done n) }
 {
     let mut store = [0; 4096];
-    let room = &mut store[..];
-    let buffer = &mut room[0..n];
+    let buffer = &mut store[..n];
     fill(buffer, done);
     hasher.update(buffer);
 }
@@ -124,6 +123,7 @@ fn joined(heap: Global, text: &str) -> Result<Digest, AllocError> {
     Ok(Digest(hash_pieces(&[&first, &second, &third])))
 }
 
+// Kept: a match on the kind of a line, one arm each, says what is printed; a closure for each kind would say no more.
 fn answer(rt: &HostRuntime, line: &str) -> anyhow::Result<()> {
     let mut parts = line.split(' ');
     let case = parts.next().unwrap_or("");

@@ -8,8 +8,8 @@ use crate::{OpeningScheme, Places, Rows, Sink, view};
 use arrayvec::ArrayVec;
 use field::BaseField;
 
-// Kept: one lent slice of values with places in it. A slice for each shelf, `&[Flat<F>]`, would have to be gathered from the values
-// first, and nothing is allocated while an opening is checked; and rows of width 0 have a height that no slice tells.
+// Kept: one lent slice of values with places in it. A slice for each shelf, `&[Flat<F>]`, would not tell how many rows of width 0 there are, so a
+// height would stand beside it; and what a kept table means is defined over one list of values with places in it.
 /// Tables that the reader holds: a commitment is the number of a shelf.
 #[derive(Clone, Copy, PartialEq, Eq, Debug)]
 pub struct KeptTables<'a, F> {

@@ -85,6 +85,8 @@ fn answer<F: BaseField, E: ExtensionField<F>>(line: &mut Line) -> anyhow::Result
     }
 }
 
+// Kept: one arm for each degree names its extension, here and in two other programs: one match for all would take a trait with a generic function,
+// and a type with an impl of it in each program, in place of these lines.
 fn answer_over<F: BaseField>(line: &mut Line) -> anyhow::Result<bool> {
     match line.one() {
         1 => answer::<F, F>(line),
@@ -128,7 +130,8 @@ fn numbers(heap: Global, line: &str) -> anyhow::Result<Vec<u32>> {
     words.map(|word| Ok(word.parse::<u32>()?)).try_collect(heap)
 }
 
-// Kept: each program of stored lines counts them by itself, since which lines count and what is printed differ.
+// Kept: each program of stored lines counts them by itself: a loop for all would be a library's function that calls a closure, which is proved only
+// under a `requires`, and no public function has one; what is left to share are two counters.
 fn run(rt: &HostRuntime) -> anyhow::Result<()> {
     let mut tally = Tally::default();
     for line in rt.lines(rt.alloc()) {

@@ -12,8 +12,7 @@ use Rattle.configuration.specs.declared.errors.WhirConfigError.TheVariants.{Limi
 use Rattle.configuration.specs.Faults.{said, Answers, Tells, of_schedule}
 use Rattle.configuration.specs.Numbers.{Numbers}
 use Rattle.configuration.specs.Limits.{within_limits}
-use Rattle.configuration.specs.Phases.{consistent, openings_within}
-use Rattle.configuration.specs.Verdicts.{fault, fault_of_plan, fault_of_phases, limit, inconsistent, flawless}
+use Rattle.configuration.specs.Verdicts.{fault, fault_of_plan, fault_of_phases, limit, flawless}
 
 pub fault_limit : (N : Numbers) → within_limits N ≡ false → fault N ≡ Some limit
 unfolding fault
@@ -30,15 +29,6 @@ fault_planned N ks w s = cond-true (within_limits N) _ _ w ∙ ap (fault_of_plan
 
 pub none_flawless : (N : Numbers) → fault N ≡ None → flawless N ≡ true
 none_flawless N e = ap (λ f. not (is_some f)) e
-
-pub phases_inconsistent : (N : Numbers) (ks : List ℕ) → consistent N ks ≡ false → fault_of_phases N ks ≡ Some inconsistent
-phases_inconsistent N ks c = cond-false (consistent N ks) _ _ c
-
-pub phases_limit : (N : Numbers) (ks : List ℕ) → consistent N ks ≡ true → openings_within N ks ≡ false → fault_of_phases N ks ≡ Some limit
-phases_limit N ks c o = cond-true (consistent N ks) _ _ c ∙ cond-false (openings_within N ks) _ _ o
-
-pub phases_fine : (N : Numbers) (ks : List ℕ) → consistent N ks ≡ true → openings_within N ks ≡ true → fault_of_phases N ks ≡ None
-phases_fine N ks c o = cond-true (consistent N ks) _ _ c ∙ cond-true (openings_within N ks) _ _ o
 
 -- the exits of making a configuration
 without_memory : (N : Numbers) (v : Verdict) → within_limits N ≡ true → schedule 6 N.strategy N.variables ≡ v → plan.Answers plan.no_memory v

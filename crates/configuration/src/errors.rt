@@ -26,7 +26,7 @@ pub enum WhirConfigError {
     OutOfMemory,
 }
 
-// Kept: a derived `From` says nothing of the error that it makes; with one here, the clause of the next one was not proved.
+// Kept: the impl is public and says what it makes; a derived one, which was tried, says nothing of that, and the clause of the next one was not proved.
 impl From<FoldingFactorError> for WhirConfigError {
     ghost from_gives = { λ e r. r ≡ Folding e };
 

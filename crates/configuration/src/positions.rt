@@ -46,10 +46,10 @@ impl PhaseNumbers {
     pub fn positions(self) -> Option<Positions>
         ensures { PositionsOf self result }
     {
-        let log_domain = self.variables.checked_add(self.rate)?;
-        if log_domain > 16 {
-            return None;
-        }
+        let log_domain = self
+            .variables
+            .checked_add(self.rate)
+            .filter(|log| *log <= 16)?;
         Some(Positions {
             log: log_domain.saturating_sub(self.factor),
             queries: self.queries,

@@ -120,6 +120,8 @@ pub struct WhirNumbers {
     pub folding_factor: FoldingFactor,
 
     // The number of the soundness guarantee.
+    //
+    // Kept: the number as it is given: one that names no guarantee is outside the limits, so it is refused with the other numbers and not as they are read.
     pub soundness: usize,
 
     // Target bits for each protocol error term.

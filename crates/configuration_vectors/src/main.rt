@@ -12,7 +12,8 @@ fn main(rt: HostRuntime) -> anyhow::Result<()> {
     run(&rt)
 }
 
-// Kept: each program of stored lines counts them by itself, since which lines count and what is printed differ.
+// Kept: each program of stored lines counts them by itself: a loop for all would be a library's function that calls a closure, which is proved only
+// under a `requires`, and no public function has one; what is left to share are two counters.
 fn run(rt: &HostRuntime) -> anyhow::Result<()> {
     let mut compared = 0u64;
     let mut different = 0u64;

@@ -16,7 +16,9 @@ pub struct Phase {
     // Rows that it opens.
     pub rows: usize,
 
-    // Positions that are drawn, as a number that is shown: 0 where every one opens.
+    // Positions that are drawn.
+    //
+    // Kept: the number that is shown, 0 where every one opens; an `Option` would be turned into it again.
     pub draws: usize,
 }
 

@@ -172,10 +172,9 @@ fn list_agrees<F: BaseField>(list: &[F], want: &[u32]) -> bool {
 }
 
 fn element_agrees<F: BaseField>(list: &[F], place: Place, want: &[u32]) -> bool {
-    match ListedDomain::new(list) {
-        Ok(domain) => point_agrees::<F, ListedDomain<F>>(&domain, place, want),
-        Err(_) => false,
-    }
+    ListedDomain::new(list).is_ok_and(|domain| point_agrees::<F, ListedDomain<F>>(
+        &domain, place, want,
+    ))
 }
 
 fn repeat_agrees<F: BaseField>(list: &mut [F], i: u32, j: u32) -> bool {
@@ -235,7 +234,8 @@ fn line_agrees(heap: Global, line: &str) -> anyhow::Result<bool> {
     }
 }
 
-// Kept: each program of stored lines counts them by itself, since which lines count and what is printed differ.
+// Kept: each program of stored lines counts them by itself: a loop for all would be a library's function that calls a closure, which is proved only
+// under a `requires`, and no public function has one; what is left to share are two counters.
 fn main(rt: HostRuntime) -> anyhow::Result<()> {
     let mut count = 0u64;
     let mut agree = 0u64;

@@ -27,6 +27,8 @@ pub fn read_element<F: BaseField, E: ExtensionField<F>>(bytes: &[u8]) -> Option<
     }
     let mut numbers = ArrayVec::<u32, 8>::new();
     let (words, _) = bytes.as_chunks::<4>();
+    // Kept: a loop: `collect` takes an allocator, and behind `extend(words.iter().map(..))`, which was tried, it stays open that there is room and
+    // what was read.
     for word in words {
         numbers.push(u32::from_le_bytes(*word));
     }

@@ -22,6 +22,8 @@ fn agrees<F: BaseField, E: ExtensionField<F>>(numbers: &[u32]) -> Option<bool> {
     Some(x.mul(y) == product && keeps::<F, E>(product))
 }
 
+// Kept: one arm for each degree names its extension, here and in two other programs: one match for all would take a trait with a generic function,
+// and a type with an impl of it in each program, in place of these lines.
 fn agrees_in_degree<F: BaseField>(degree: u32, numbers: &[u32]) -> Option<bool> {
     match degree {
         1 => agrees::<F, F>(numbers),
@@ -40,7 +42,8 @@ fn holds(line: &[u32]) -> Option<bool> {
     }
 }
 
-// Kept: each program of stored lines counts them by itself, since which lines count and what is printed differ.
+// Kept: each program of stored lines counts them by itself: a loop for all would be a library's function that calls a closure, which is proved only
+// under a `requires`, and no public function has one; what is left to share are two counters.
 fn main(rt: HostRuntime) -> anyhow::Result<()> {
     let mut count = 0u64;
     let mut agree = 0u64;

@@ -84,15 +84,14 @@ impl<'a> Cursor<'a> {
     pub fn number(&mut self) -> Result<usize, Fault>
         ensures { Gives plain (number self.old.rest.now) result self.new.rest.now }
     {
-        let rest = self.rest;
-        let count = digit_count(rest);
-        if count == 0 {
+        let (digits, behind) = self.rest.split_at(digit_count(self.rest));
+        if digits.is_empty() {
             return Err(Fault::Syntax(Expected::Number));
         }
-        let Ok(value) = usize::try_from(value_of(&rest[..count])) else {
-            return Err(Fault::Syntax(Expected::NumberBelow64Bits));
-        };
-        self.rest = &rest[count..];
+        let value = usize::try_from(value_of(digits)).map_err(|_| Fault::Syntax(
+            Expected::NumberBelow64Bits,
+        ))?;
+        self.rest = behind;
         Ok(value)
     }
 

@@ -61,8 +61,8 @@ impl Fault {
     }
 }
 
-// Kept: want of memory comes as either of two errors, and a clause has to know what `?` makes of each; `#[from(alloc)]` of the derive
-// writes both, and says of neither what it makes.
+// Kept: want of memory comes to a caller's `?` as either of two errors. Both impls are public, and each says what it makes; `#[from(alloc)]` of the
+// derive writes both, and says of neither.
 impl From<AllocError> for Fault {
     ghost from_gives = { λ _ r. r ≡ OutOfMemory };
 

@@ -6,7 +6,6 @@ use configuration::whir::WhirConfig;
 use configuration_view::view::view_of;
 use format::errors::ReadError;
 use format::reading::read_configuration;
-use parameters::errors::ScheduleError;
 use parameters::folding::FoldingFactor;
 use std::alloc::{AllocError, Global};
 use std::process::ExitCode;
@@ -50,12 +49,6 @@ enum RunError {
 
     #[error(transparent)]
     Io(#[from] io::Error),
-}
-
-impl From<ScheduleError> for RunError {
-    fn from(e: ScheduleError) -> RunError {
-        RunError::Refused(e.into())
-    }
 }
 
 // Numbers, with a blank between.
@@ -145,7 +138,9 @@ fn schedule(
     num_variables: usize,
     strategy: &FoldingFactor,
 ) -> Result<(), RunError> {
-    let factors = strategy.compute_folding_schedule(rt.alloc(), num_variables)?;
+    let factors = strategy
+        .compute_folding_schedule(rt.alloc(), num_variables)
+        .map_err(WhirConfigError::from)?;
     let left: Vec<usize> = factors
         .iter()
         .scan(num_variables, |left, factor| {

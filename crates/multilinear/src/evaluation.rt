@@ -61,6 +61,9 @@ pub fn evaluate<F: Field>(scratch: &mut [F], point: &Point<F>) -> Option<F>
 }
 
 // The table under a weight at a point, by its halves: no buffer, and linear in the table's size.
+//
+// Kept: here and in `bind_all` a table and a point go beside one another, of as many values as the point has corners: a struct of both would be made
+// anew for each half, and hold the table here by `&` and there by `&mut`; the public calls test the lengths themselves.
 fn by_halves<F: Field>(weight: Weight, table: &[F], point: &Point<F>) -> F
     requires { length table.now ≡ 2 ^ length point.now }
     ensures { result ≡ weighted F.Field.ops (factor_of F.Field.ops weight) table.now point.now }

@@ -9,8 +9,7 @@ use field::Field;
 // The two weights of a corner at a point.
 // Kept: a closure for the factor would give each of `weigh`, `weigh_univariate`, `by_halves` and `weigh_table` a `requires` that it may be called, and
 // in place of `factor_of .. weight` a premise, `(f : F → F → F) → ((p x r : F) → W.post factor p x r → r ≡ f p x) → ..`, to be shown at each of
-// their nine calls, two of them in the recursion; a trait would be two unit structs and two impls in place of one match, and its type would have to be
-// named at each of these calls, since no argument shows it.
+// their nine calls, two of them in the recursion; a trait would be two unit structs and two impls, each with a ghost factor, in place of one match.
 #[derive(Clone, Copy, Debug, PartialEq, Eq)]
 pub enum Weight {
     Eq,
@@ -96,7 +95,8 @@ pub fn expand_from_univariate<F: Field>(v: F, out: &mut [F])
     ensures { out.new ≡ expand F.Field.ops v (length out.old) }
 {
     let mut power = v;
-    // Kept: by an index: after a loop over `iter_mut().rev()` no element that was written is known.
+    // Kept: by an index: after a loop over `iter_mut().rev()` no element that was written is known; and a recursion by `split_last_mut`, which was
+    // tried and proves, goes as deep as the slice that a caller lends is long.
     for j in (0..out.len()).rev() {
         out[j] = power;
         power = power.mul(power);

@@ -53,14 +53,14 @@ impl FromStr for Kind {
 #[derive(Clone, Copy, Debug, PartialEq, Eq)]
 struct Case<'a> {
     kind: Kind,
-    variables: usize,
+    variables: Option<usize>,
     coefficients: &'a [u32],
 }
 
 // The elements of a case, with its number of variables, and as many elements to work in.
 #[derive(Debug, Drop)]
 struct Replay<E> {
-    variables: usize,
+    variables: Option<usize>,
     elements: Vec<E>,
     scratch: Vec<E>,
 }
@@ -69,8 +69,9 @@ impl<E: Field> Replay<E> {
     fn weight_agrees<W: Fn(&[E], &Point<E>) -> Option<E>>(&self, weight_at: W) -> Option<bool>
         requires { W.IsAlwaysCallable weight_at }
     {
-        let (point, rest) = self.elements.split_at_checked(self.variables)?;
-        let (x, rest) = rest.split_at_checked(self.variables)?;
+        let variables = self.variables?;
+        let (point, rest) = self.elements.split_at_checked(variables)?;
+        let (x, rest) = rest.split_at_checked(variables)?;
         let [want] = rest else { return None };
         let answer = weight_at(point, &Point::new(x, VariableOrder::Prefix));
         Some(answer == Some(*want))
@@ -79,7 +80,7 @@ impl<E: Field> Replay<E> {
     // Read in place, and in a buffer that begins with the table, the value is the same.
     fn value_agrees(&mut self) -> Option<bool> {
         let (want, rest) = self.elements.split_last()?;
-        let (table, draws) = rest.split_at_checked(rest.len().checked_sub(self.variables)?)?;
+        let (table, draws) = rest.split_at_checked(rest.len().checked_sub(self.variables?)?)?;
         let point = Point::new(draws, VariableOrder::Prefix);
         let want = Some(*want);
         Some(value_at(table, &point) == want && evaluate(&mut self.scratch, &point) == want)
@@ -87,7 +88,7 @@ impl<E: Field> Replay<E> {
 
     fn expansion_agrees(&mut self) -> Option<bool> {
         let (v, want) = self.elements.split_first()?;
-        let (out, _rest) = self.scratch.split_at_mut_checked(self.variables)?;
+        let (out, _rest) = self.scratch.split_at_mut_checked(self.variables?)?;
         expand_from_univariate(*v, out);
         Some(&*out == want)
     }
@@ -129,6 +130,8 @@ fn agrees<F: BaseField, E: ExtensionField<F>>(
     replay.holds(case.kind).ok_or(LineError::Unreadable)
 }
 
+// Kept: one arm for each degree names its extension, here and in two other programs: one match for all would take a trait with a generic function,
+// and a type with an impl of it in each program, in place of these lines.
 fn agrees_over<F: BaseField>(heap: Global, degree: u32, case: &Case) -> Result<bool, LineError> {
     match degree {
         1 => agrees::<F, F>(heap, case),
@@ -141,13 +144,17 @@ fn agrees_over<F: BaseField>(heap: Global, degree: u32, case: &Case) -> Result<b
 
 fn case_agrees(heap: Global, kind: Kind, numbers: &[u32]) -> Result<bool, LineError> {
     let (modulus, degree, variables, coefficients) = match (kind, numbers) {
-        (Kind::Round, [modulus, degree, coefficients @ ..]) => (*modulus, *degree, 0, coefficients),
-        (_, [modulus, degree, n, coefficients @ ..]) => (*modulus, *degree, *n, coefficients),
+        (Kind::Round, [modulus, degree, coefficients @ ..]) => {
+            (*modulus, *degree, None, coefficients)
+        }
+        (_, [modulus, degree, n, coefficients @ ..]) => {
+            (*modulus, *degree, Some(*n as usize), coefficients)
+        }
         _ => return Err(LineError::Unreadable),
     };
     let case = Case {
         kind,
-        variables: variables as usize,
+        variables,
         coefficients,
     };
     match modulus {
@@ -171,7 +178,8 @@ fn line_agrees(heap: Global, line: &str) -> anyhow::Result<bool> {
     }
 }
 
-// Kept: each program of stored lines counts them by itself, since which lines count and what is printed differ.
+// Kept: each program of stored lines counts them by itself: a loop for all would be a library's function that calls a closure, which is proved only
+// under a `requires`, and no public function has one; what is left to share are two counters.
 fn main(rt: HostRuntime) -> anyhow::Result<()> {
     let mut count = 0u64;
     let mut agree = 0u64;

@@ -38,7 +38,8 @@ pub enum ScheduleError {
     OutOfMemory,
 }
 
-// Kept: a derived `From` says nothing of the error that it makes; with one here, the refusals of `compute_folding_schedule` were not proved.
+// Kept: the impl is public and says what it makes; a derived one, which was tried, says nothing of that, and the refusals of
+// `compute_folding_schedule` were not proved.
 impl From<FoldingFactorError> for ScheduleError {
     ghost from_gives = { λ e r. r ≡ Folding e };
 
@@ -47,7 +48,8 @@ impl From<FoldingFactorError> for ScheduleError {
     }
 }
 
-// Kept: want of memory comes as either of two errors, and a clause has to know what `?` makes of each.
+// Kept: want of memory comes to a caller's `?` as either of two errors. Both impls are public, and each says what it makes; `#[from(alloc)]` of the
+// derive writes both, and says of neither.
 impl From<AllocError> for ScheduleError {
     ghost from_gives = { λ _ r. r ≡ OutOfMemory };
 

@@ -3,8 +3,21 @@ use hexadecimal::from_hex;
 use sponge::Sponge;
 use sponge::archive::ArchiveSponge;
 use sponge::trial::TrialSponge;
-use std::alloc::Global;
+use std::alloc::{AllocError, Global};
 use std::fmt;
+use std::num::ParseIntError;
+use thiserror::Error;
+
+/// Why a line has no answer.
+#[derive(Debug, Drop, Error)]
+pub enum LineError {
+    #[error("the line is no list of calls")]
+    Unreadable,
+    #[error(transparent)]
+    Number(#[from] ParseIntError),
+    #[error(transparent)]
+    OutOfMemory(#[from(alloc)] AllocError),
+}
 
 /// How many lines and calls have been replayed, and how many lines disagree.
 #[derive(Clone, Copy, Debug, Default, PartialEq, Eq)]
@@ -34,13 +47,13 @@ impl fmt::Display for Tally {
 pub trait Stored: Sponge {
     const NAME: &'static str;
 
-    fn is_at(&self, heap: Global, state: &str) -> anyhow::Result<bool>;
+    fn is_at(&self, heap: Global, state: &str) -> Result<bool, LineError>;
 }
 
 impl Stored for ArchiveSponge {
     const NAME: &'static str = "archive";
 
-    fn is_at(&self, heap: Global, state: &str) -> anyhow::Result<bool> {
+    fn is_at(&self, heap: Global, state: &str) -> Result<bool, LineError> {
         let bytes = from_hex(heap, state)?;
         Ok(bytes.is_some_and(|bytes| bytes.as_slice() == &self.state()[..]))
     }
@@ -49,7 +62,7 @@ impl Stored for ArchiveSponge {
 impl Stored for TrialSponge {
     const NAME: &'static str = "trial";
 
-    fn is_at(&self, heap: Global, state: &str) -> anyhow::Result<bool> {
+    fn is_at(&self, heap: Global, state: &str) -> Result<bool, LineError> {
         Ok(state.parse::<u64>()? == self.state())
     }
 }
@@ -60,15 +73,13 @@ pub(crate) fn replay<S: Stored + Drop>(
     seed: S::Seed,
     calls: &str,
     tally: &mut Tally,
-) -> anyhow::Result<bool> {
+) -> Result<bool, LineError> {
     let mut sponge = S::make(seed);
     let mut words = calls.split(' ');
     while let (Some(call), Some(word)) = (words.next(), words.next()) {
         match call {
             "observe" => {
-                let Some(bytes) = from_hex(heap, word)? else {
-                    return Ok(false);
-                };
+                let bytes = from_hex(heap, word)?.ok_or(LineError::Unreadable)?;
                 tally.observes = tally.observes.saturating_add(1);
                 sponge.observe(&bytes);
             }
@@ -79,13 +90,11 @@ pub(crate) fn replay<S: Stored + Drop>(
                 }
             }
             "after" => {
-                let Some(state) = words.next() else {
-                    return Ok(false);
-                };
+                let state = words.next().ok_or(LineError::Unreadable)?;
                 return Ok(word == S::NAME && sponge.is_at(heap, state)? && words.next().is_none());
             }
-            _ => return Ok(false),
+            _ => return Err(LineError::Unreadable),
         }
     }
-    Ok(false)
+    Err(LineError::Unreadable)
 }

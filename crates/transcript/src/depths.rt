@@ -18,10 +18,7 @@ impl Iterator for Depths {
 
     #[tactic(auto, using(crate::proofs::Summing::no_depth, crate::proofs::Summing::first_depth, crate::proofs::Summing::fewer_left))]
     fn next(&mut self) -> Option<usize> {
-        if self.0 == 0 {
-            return None;
-        }
-        let depth = self.0.ilog2() as usize;
+        let depth = self.0.checked_ilog2()? as usize;
         self.0 -= 1 << depth;
         Some(depth)
     }

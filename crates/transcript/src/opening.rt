@@ -102,7 +102,8 @@ fn observe_strategy<S: Sponge>(sponge: &mut S, factor: &FoldingFactor)
 
 // What a separator describes: a run's configuration, the degree of its extension field, and how many claims are opened.
 //
-// Kept: the sponge is handed to each method, for a struct that held a `&mut S` would promise in each that this reference and the other fields stay.
+// Kept: the sponge is handed to each method, for the reason that stands beside `Run`: a struct that held it as `&'a mut S` would promise in each of
+// its seven methods that the configuration, the degree, the number of claims and the reference stay.
 #[derive(Clone, Copy)]
 struct Description<'a> {
     config: &'a WhirConfig,
