@@ -4,3 +4,4 @@ pub mod Lines
 pub mod Configurations
 pub mod Files
 pub mod Written
+pub mod Runs

@@ -1,9 +1,10 @@
 -- The key words as they are written.
 use Rattle.std.specs.Prelude.{ℕ, List, codes}
 use Rattle.format.specs.declared.keys.Key.{Key}
-use Rattle.format.specs.declared.keys.Key.TheVariants.{NumVariables, Capacity, DomainId, Stratified, StartingLogInvRate, RoundLogInvRates, FoldingFactor, Soundness, SecurityLevel, PowBudget, Schedule, Rounds, Round, CommitmentOodSamples, StartingFoldingPowBits, Terminal, FinalSumcheckRounds, FinalFoldingPowBits}
+use Rattle.format.specs.declared.keys.Key.TheVariants.{Degree, NumVariables, Capacity, DomainId, Stratified, StartingLogInvRate, RoundLogInvRates, FoldingFactor, Soundness, SecurityLevel, PowBudget, Schedule, Rounds, Round, CommitmentOodSamples, StartingFoldingPowBits, Terminal, FinalSumcheckRounds, FinalFoldingPowBits, NumOpeningClaims}
 
 abbrev pub letters : Key → List ℕ
+letters Degree = codes "degree"
 letters NumVariables = codes "num_variables"
 letters Capacity = codes "capacity"
 letters DomainId = codes "domain_id"
@@ -22,3 +23,4 @@ letters StartingFoldingPowBits = codes "starting_folding_pow_bits"
 letters Terminal = codes "terminal"
 letters FinalSumcheckRounds = codes "final_sumcheck_rounds"
 letters FinalFoldingPowBits = codes "final_folding_pow_bits"
+letters NumOpeningClaims = codes "num_opening_claims"

@@ -6,6 +6,7 @@ use std::fmt;
 
 #[derive(Clone, Copy, PartialEq, Eq, Debug)]
 pub enum Key {
+    Degree,
     NumVariables,
     Capacity,
     DomainId,
@@ -24,6 +25,7 @@ pub enum Key {
     Terminal,
     FinalSumcheckRounds,
     FinalFoldingPowBits,
+    NumOpeningClaims,
 }
 
 impl Key {
@@ -32,6 +34,7 @@ impl Key {
         ensures { result.now ≡ letters self }
     {
         match self {
+            Key::Degree => "degree",
             Key::NumVariables => "num_variables",
             Key::Capacity => "capacity",
             Key::DomainId => "domain_id",
@@ -50,6 +53,7 @@ impl Key {
             Key::Terminal => "terminal",
             Key::FinalSumcheckRounds => "final_sumcheck_rounds",
             Key::FinalFoldingPowBits => "final_folding_pow_bits",
+            Key::NumOpeningClaims => "num_opening_claims",
         }
     }
 }

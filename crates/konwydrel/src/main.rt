@@ -5,16 +5,19 @@ use configuration::errors::WhirConfigError;
 use configuration::whir::WhirConfig;
 use configuration_view::view::view_of;
 use format::errors::ReadError;
+use format::numbers::RunNumbers;
 use format::reading::read_configuration;
+use format::run::read_run;
 use parameters::folding::FoldingFactor;
 use std::alloc::{AllocError, Global};
 use std::process::ExitCode;
 use std::{env, fmt, fs, io};
 use text::number;
 use thiserror::Error;
+use transcript::shape::WhirShape;
 
 const USAGE: &str =
-    "usage: konwydrel schedule N constant F | second F G | per-round F F .., or konwydrel config FILE";
+    "usage: konwydrel schedule N constant F | second F G | per-round F F .., konwydrel config FILE, or konwydrel separator FILE";
 
 // Numbers above this one are refused by the program.
 const LIMIT: usize = 65_535;
@@ -27,6 +30,9 @@ enum Request<'a> {
 
     // The configuration in a file.
     Config(&'a str),
+
+    // The separator of the run in a file.
+    Separator(&'a str),
 }
 
 // Why a run has no result to print.
@@ -100,12 +106,14 @@ fn answer(rt: &HostRuntime, words: &[&str]) -> Result<(), RunError> {
     match requested(rt.alloc(), words)? {
         Request::Schedule(num_variables, strategy) => schedule(rt, num_variables, &strategy),
         Request::Config(path) => config(rt, path),
+        Request::Separator(path) => separator(rt, path),
     }
 }
 
 fn requested<'a>(heap: Global, words: &[&'a str]) -> Result<Request<'a>, RunError> {
     match words {
         ["config", path] => Ok(Request::Config(path)),
+        ["separator", path] => Ok(Request::Separator(path)),
         ["schedule", num_variables, strategy, factors @ ..] => {
             let num_variables = number::parse(num_variables).ok_or(RunError::Usage)?;
             let numbers: Vec<usize> = factors
@@ -164,4 +172,22 @@ fn config(rt: &HostRuntime, path: &str) -> Result<(), RunError> {
         println!(rt; "phase {i} {phase}")?;
     }
     Ok(println!(rt; "buffers {}", view.buffers)?)
+}
+
+// The separator of a run in a file: its shape, its steps and its pieces. The degree is that of an extension that there is.
+fn separator(rt: &HostRuntime, path: &str) -> Result<(), RunError> {
+    let text = fs::read(rt, path)?;
+    let RunNumbers {
+        degree,
+        numbers,
+        num_opening_claims,
+    } = read_run(rt.alloc(), &text)?;
+    if ![1, 2, 4, 8].contains(&degree) {
+        return Err(RunError::Refused(WhirConfigError::Limit));
+    }
+    let config = WhirConfig::new(rt.alloc(), numbers)?;
+    let shape = WhirShape::new(rt.alloc(), &config, num_opening_claims)?;
+    println!(rt; "{shape}")?;
+    println!(rt; "{}", shape.pattern(rt.alloc(), degree)?)?;
+    Ok(println!(rt; "{}", shape.domain_separator(rt.alloc(), degree)?)?)
 }

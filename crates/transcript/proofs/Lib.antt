@@ -7,3 +7,4 @@ pub mod Stepping
 pub mod Cuts
 pub mod Filling
 pub mod Placing
+pub mod Owning

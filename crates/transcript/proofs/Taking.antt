@@ -84,6 +84,11 @@ unfolding taken
 taken_map m f s [] = refl
 taken_map m f s (x ∷ xs) = taken_map m f (m.after_observe s (f x)) xs
 
+-- pieces that were all taken were observed, each by a call of its own
+pub all_taken : {X : Type 0} (m : Rules) (f : X → List ℕ) (s t : List ℕ) (xs : List X) → t ≡ taken m f s xs → Plays m s (observe_all (map f xs)) (Ok tt) t
+all_taken m f s t xs e =
+    record { comes = (all_observed m s (map f xs)).comes ∙ ap (λ v. record { answer = Ok tt; list = v }) (taken_map m f s xs ∙ sym e) }
+
 pub opened : (m : Rules) (s a b c d : List ℕ) (steps : List Step) (labels : List (List ℕ)) → a ≡ m.after_observe s (3 ∷ []) → b ≡ m.after_observe a (codes "p3-whir")
     → c ≡ taken m step_bytes b steps → d ≡ taken m instance_bytes c labels → Plays m s (observe_all (pieces steps labels)) (Ok tt) d
 unfolding pieces taken

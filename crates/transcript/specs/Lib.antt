@@ -9,3 +9,4 @@ pub mod Cutting
 pub mod Positions
 pub mod Playing
 pub mod Sites
+pub mod Owned

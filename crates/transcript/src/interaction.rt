@@ -3,6 +3,7 @@ ghost use Rattle.std.specs.Prelude.{◌≡◌};
 ghost use Rattle.transcript.specs.Steps.{label_bytes, step_bytes, step_of, marker, commitment_step, drawn_step, sent_step, grinding_step, indices_step};
 
 use crate::piece::Piece;
+use std::fmt;
 
 // Whether a step opens or closes a bracket, or stands alone.
 #[derive(Clone, Copy, PartialEq, Eq, Debug)]
@@ -179,5 +180,21 @@ impl Interaction {
             .try_extend_from_slice(self.label.as_str().as_bytes())
             .unwrap();
         piece
+    }
+}
+
+// The kinds' names, the two numbers, and the step's name.
+impl fmt::Display for Interaction {
+    fn fmt<W: fmt::Write>(&self, f: &mut fmt::Formatter<W>) -> fmt::Result {
+        write!(
+            f,
+            "{:?} {:?} {:?} {} {} {}",
+            self.hierarchy,
+            self.kind,
+            self.value,
+            self.width,
+            self.length,
+            self.label.as_str()
+        )
     }
 }
