@@ -3,17 +3,19 @@ ghost use Rattle.std.specs.Prelude.{◌≡◌, ◌≤◌, ◌++◌, [], ◌∷�
 ghost use Rattle.std.specs.List.{flat_map};
 ghost use Rattle.parameters.specs.Replies.{strategy_of};
 ghost use Rattle.sponge.specs.Plays.{Plays};
+ghost use Rattle.configuration.specs.Numbers.{numbers_of};
 ghost use Rattle.configuration.specs.Views.{kind_number};
 ghost use Rattle.transcript.specs.Bytes.{eight};
 ghost use Rattle.transcript.specs.Steps.{step_bytes, step_of};
 ghost use Rattle.transcript.specs.Pattern.{pattern};
 ghost use Rattle.transcript.specs.Instances.{instance_bytes, instances, domain_instances, strategy_numbers, sumcheck_numbers, round_numbers};
-ghost use Rattle.transcript.specs.Opening.{pieces, observe_all};
+ghost use Rattle.transcript.specs.Opening.{pieces, separator, observe_all};
 ghost use Rattle.transcript.specs.Owned.{piece_bytes, sumcheck_of, shape_of, Binds};
 
 use crate::pattern::InteractionPattern;
 use crate::piece::{Piece, instance};
 use crate::shape::{SumcheckShape, WhirShape};
+use configuration::whir::WhirConfig;
 use configuration::whir_parameters::SecurityAssumption;
 use parameters::folding::FoldingFactor;
 use sponge::Sponge;
@@ -33,6 +35,19 @@ pub struct DomainSeparator {
 }
 
 impl DomainSeparator {
+    // The separator of a run: what opening it observes.
+    pub fn of_run(
+        heap: Global,
+        config: &WhirConfig,
+        degree: usize,
+        num_opening_claims: usize,
+    ) -> Result<DomainSeparator, AllocError>
+        ensures { IfOk result (λ s. map piece_bytes s.pieces.items ≡ separator (numbers_of config.now.numbers) degree num_opening_claims) }
+    {
+        let shape = WhirShape::new(heap, config, num_opening_claims)?;
+        shape.domain_separator(heap, degree)
+    }
+
     // The version, the name and the steps.
     #[tactic(auto, using(crate::proofs::Owning::step_bound, crate::proofs::Owning::begun))]
     fn new(heap: Global, pattern: &InteractionPattern) -> Result<DomainSeparator, AllocError>
