@@ -1,6 +1,6 @@
 -- What stands behind the commitments of a run, and the accidents by which a run can be accepted though a claim is false.
 use Rattle.std.specs.Prelude.{◌≡◌, ℕ, suc, ◌^◌, ◌⊎◌, List, ◌∷◌, ◌++◌, map, length}
-use mathlib.Core.List.{Memᴰ}
+use Rattle.digest.specs.Collision.{Collision}
 use Rattle.ring.specs.Ring.{Ops}
 use Rattle.multilinear.specs.declared.order.VariableOrder.{VariableOrder}
 use Rattle.std.specs.List.{AllByRecursion}
@@ -22,15 +22,6 @@ pub record Phase (E : Type 0) : Type 0 where
 -- the phases after the first of a sequence
 abbrev pub onward : {A : Type 0} → (ℕ → A) → ℕ → A
 onward ps i = ps (suc i)
-
--- a list of the one kind and a different list of the other have one digest
-pub record Collision (digest : List ℕ → List ℕ) (checked committed : List (List ℕ)) : Type 0 where
-  pub one : List ℕ
-  pub other : List ℕ
-  pub in_checking : Memᴰ one checked
-  pub in_committing : Memᴰ other committed
-  pub different : ¬ (one ≡ other)
-  pub shared : digest one ≡ digest other
 
 -- lists of one phase collide
 abbrev pub Clash : {E : Type 0} → (List ℕ → List ℕ) → Phase E → Type 0

@@ -2,7 +2,8 @@
 use Rattle.std.proofs.Common.{◌≡◌, ℕ, zero, suc, ◌*◌, ◌<◌, true, ◌&&◌, eqb, List, [], ◌∷◌, ◌++◌, length, get_or, take, drop, sym, refl, ap, ◌∙◌, subst, inl, inr, ⊎_elim, le_of_suc-le-suc, not-suc-le-zero, suc-mul, zero-mul, arith, length-append}
 use Rattle.std.proofs.lemmas.List.{drop-drop, take_at, drop_at}
 use Rattle.std.proofs.lemmas.Bool.{and_parts, and_from, eq-eqb}
-use Rattle.commit.specs.Opening.{Meaning, Laws, Collision, row_of, Wide, piece, rows_right, opens, own_rows, own_paths, Bound, Own}
+use Rattle.digest.specs.Collision.{Collision}
+use Rattle.commit.specs.Opening.{Meaning, Laws, row_of, Wide, piece, rows_right, opens, own_rows, own_paths, Bound, Own}
 
 first_piece : {X : Type 0} (l : List X) (w : ℕ) → take w l ≡ piece l w 0
 first_piece l w = ap (λ k. take w (drop k l)) (sym (zero-mul w))

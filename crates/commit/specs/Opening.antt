@@ -1,6 +1,6 @@
 -- What an opening scheme means, when an opening is right, and the laws of a scheme. Assumes nothing.
 use Rattle.std.specs.Prelude.{◌≡◌, ℕ, ◌*◌, ◌<◌, Bool, true, ◌&&◌, ◌⊎◌, List, [], ◌∷◌, ◌++◌, length, take, drop, ◌==◌, slice_index, slice_index_or}
-use mathlib.Core.List.{Memᴰ}
+use Rattle.digest.specs.Collision.{Collision}
 
 -- a scheme for rows of X, with commitments C and paths of N
 pub record Meaning (X C N : Type 0) : Type 0 where
@@ -16,15 +16,6 @@ pub record Meaning (X C N : Type 0) : Type 0 where
   pub committed_lists : (matrix : List (List X)) → List (List ℕ)
   -- the bytes that a commitment is observed as
   pub observed : C → List ℕ
-
--- a list digested in checking and a different one digested in committing have one digest
-pub record Collision (digest : List ℕ → List ℕ) (checked committed : List (List ℕ)) : Type 0 where
-  pub one : List ℕ
-  pub other : List ℕ
-  pub in_checking : Memᴰ one checked
-  pub in_committing : Memᴰ other committed
-  pub different : one ≡ other → ⊥
-  pub shared : digest one ≡ digest other
 
 -- the row of a matrix at an index
 abbrev pub row_of : {X : Type 0} → List (List X) → ℕ → List X

@@ -5,7 +5,8 @@ use Rattle.std.proofs.Math.Seq.{take-nil, drop-nil, take-append-add, drop-append
 use Rattle.std.proofs.lemmas.List.{get_or-map, length-map, get_or_past}
 use Rattle.std.proofs.lemmas.Bool.{cases_lt}
 use Rattle.field.specs.Extension.{Extension, Sized}
-use Rattle.commit.specs.Opening.{Meaning, Laws, Collision, row_of, Wide, piece, rows_right, opens}
+use Rattle.digest.specs.Collision.{Collision}
+use Rattle.commit.specs.Opening.{Meaning, Laws, row_of, Wide, piece, rows_right, opens}
 use Rattle.commit.specs.Spread.{spread, extended}
 use Rattle.commit.specs.ListLemmas.{eqb_same, append_inj}
 

@@ -12,7 +12,8 @@ use Rattle.ring.specs.Ring.{Ops}
 use Rattle.field.specs.Numbers.{Numbering, Numbers}
 use Rattle.field.specs.Bytes.{word_bytes, little_endian, coefficients_bytes}
 use Rattle.field.proofs.Encoding.{number_of_bytes}
-use Rattle.commit.specs.Opening.{Laws, Collision, row_of}
+use Rattle.digest.specs.Collision.{Collision}
+use Rattle.commit.specs.Opening.{Laws, row_of}
 use Rattle.commit.specs.Tree.{levels, climbs, climbed_lists, siblings, paired_lists, leaves, merkle, RootOf}
 use Rattle.commit.specs.ListLemmas.{append_inj, member}
 use Rattle.commit.specs.TreeLemmas.{Level, climbs_own, climbs_inside, climbs_long, climbs_bound, length_siblings}

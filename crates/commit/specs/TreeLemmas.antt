@@ -8,7 +8,7 @@ use Rattle.std.proofs.lemmas.List.{get_or-map, length-map}
 use Rattle.std.proofs.lemmas.Bool.{cases_lt, cases_eq, cases_Bool, both_ways, lt-ltb, le-ltb, eq-eqb, ne_eqb, eqb-true, and_parts, and_from, cond-true, cond-false}
 use Rattle.blake2s.specs.Blake2s.{hash}
 use Rattle.blake2s.proofs.Digests.{length_hash}
-use Rattle.commit.specs.Opening.{Collision}
+use Rattle.digest.specs.Collision.{Collision}
 use Rattle.commit.specs.Tree.{halvings, levels, ordered, climbs, climbed_lists, pairs, above, root_of, sibling, siblings, paired_lists}
 use Rattle.commit.specs.ListLemmas.{append_inj, member}
 

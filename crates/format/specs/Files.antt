@@ -33,17 +33,17 @@ from_line word bs = cond (begins word bs) bs (behind_lines word bs)
 abbrev pub line_of : List ℕ → List ℕ → ℕ
 line_of text rest = min (2 ^ 64 - 1) (line_feeds text - line_feeds rest + 1)
 
--- What a file comes to: the numbers of its configuration, or a line and what was expected there.
-pub data Outcome : Type 0 where
-  numbers : Numbers → Outcome
-  wrong : ℕ → Expected → Outcome
+-- What a file comes to: what was to be read, or a line and what was expected there.
+pub data Outcome (X : Type 0) : Type 0 where
+  gives : X → Outcome X
+  wrong : ℕ → Expected → Outcome X
 
-abbrev pub told : List ℕ → Read Numbers → Outcome
-told text (found n rest) = numbers n
+abbrev pub told : {X : Type 0} → List ℕ → Read X → Outcome X
+told text (found x rest) = gives x
 told text (stuck e rest) = wrong (line_of text rest) e
 
 -- The configuration begins at the line of its variables; what follows its last line is not looked at.
-unfoldable pub outcome : List ℕ → Outcome
+unfoldable pub outcome : List ℕ → Outcome Numbers
 outcome text = told text (configuration_lines (from_line (letters NumVariables) text))
 
 -- A fault of a part, with its line.
@@ -51,8 +51,12 @@ abbrev pub placed : Fault → ℕ → ReadError
 placed (fault.Syntax e) line = Syntax line e
 placed fault.OutOfMemory line = OutOfMemory
 
--- The answer is the outcome: numbers exactly where the definition reads them, and else its line and expectation. Memory may run out.
+-- The answer is the outcome, if what is answered is read as what was to be read: that exactly where the definition reads it, and else its
+-- line and expectation. Memory may run out.
+abbrev pub Tells : {X Y : Type 0} → (X → Y) → Outcome Y → Result X ReadError → Type 0
+Tells read o (Ok x) = o ≡ gives (read x)
+Tells read o (Err (Syntax line e)) = o ≡ wrong line e
+Tells read o (Err OutOfMemory) = Unit {0}
+
 abbrev pub Answers : Result WhirNumbers ReadError → List ℕ → Type 0
-Answers (Ok w) text = outcome text ≡ numbers (numbers_of w)
-Answers (Err (Syntax line e)) text = outcome text ≡ wrong line e
-Answers (Err OutOfMemory) text = Unit {0}
+Answers r text = Tells numbers_of (outcome text) r

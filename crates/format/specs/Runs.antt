@@ -1,16 +1,14 @@
 -- What a run's separator is made of, in a file.
-use Rattle.std.specs.Prelude.{◌≡◌, ℕ, List, Ok, Err, Result}
+use Rattle.std.specs.Prelude.{ℕ, List, Result}
 use Rattle.configuration.specs.Numbers.{Numbers, numbers_of}
-use Rattle.format.specs.declared.errors.Expected.{Expected}
 use Rattle.format.specs.declared.errors.ReadError.{ReadError}
-use Rattle.format.specs.declared.errors.ReadError.TheVariants.{Syntax, OutOfMemory}
 use Rattle.format.specs.declared.keys.Key.TheVariants.{Degree, NumVariables, NumOpeningClaims}
 use Rattle.format.specs.declared.numbers.RunNumbers.{RunNumbers}
 use Rattle.format.specs.Words.{letters}
-use Rattle.format.specs.Reading.{Read, found, stuck, then, next_number}
+use Rattle.format.specs.Reading.{Read, found, then, next_number}
 use Rattle.format.specs.Lines.{line}
 use Rattle.format.specs.Configurations.{configuration_lines}
-use Rattle.format.specs.Files.{from_line, line_of}
+use Rattle.format.specs.Files.{from_line, Outcome, told, Tells}
 
 -- A run's numbers: the degree of the extension, those of the configuration, and how many claims are opened.
 pub record Run : Type 0 where
@@ -29,21 +27,10 @@ run_lines bs =
     (λ N b2. then (line NumOpeningClaims next_number b2)
     (λ claims rest. found (record { degree = degree; numbers = N; claims = claims }) rest)))
 
--- What a file comes to: the numbers of its run, or a line and what was expected there.
-pub data RunOutcome : Type 0 where
-  run : Run → RunOutcome
-  wrong : ℕ → Expected → RunOutcome
-
-abbrev pub told : List ℕ → Read Run → RunOutcome
-told text (found r rest) = run r
-told text (stuck e rest) = wrong (line_of text rest) e
-
 -- A run begins at the line of its degree.
-unfoldable pub run_outcome : List ℕ → RunOutcome
+unfoldable pub run_outcome : List ℕ → Outcome Run
 run_outcome text = told text (run_lines (from_line (letters Degree) text))
 
--- The answer is the outcome. Memory may run out.
+-- The answer is the outcome.
 abbrev pub AnswersRun : Result RunNumbers ReadError → List ℕ → Type 0
-AnswersRun (Ok r) text = run_outcome text ≡ run (run_of r)
-AnswersRun (Err (Syntax line e)) text = run_outcome text ≡ wrong line e
-AnswersRun (Err OutOfMemory) text = Unit {0}
+AnswersRun r text = Tells run_of (run_outcome text) r
