@@ -16,7 +16,7 @@ none : (n : ℕ) → suc n ≡ 0 → ⊥
 none n e = omega arith
 
 -- lists of elements with the same numbers
-listed : (x y : List (Residue 257)) → numbers x ≡ numbers y → x ≡ y
+pub listed : (x y : List (Residue 257)) → numbers x ≡ numbers y → x ≡ y
 listed [] [] e = refl
 listed [] (b ∷ y) e = absurd (none _ (ap lib.ListN.length (mathlib.Core.Path.sym e)))
 listed (a ∷ x) [] e = absurd (none _ (ap lib.ListN.length e))

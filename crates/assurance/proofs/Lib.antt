@@ -1,0 +1,10 @@
+pub mod Counting
+pub mod Matrices
+pub mod Fitting
+pub mod Openings
+pub mod Completing
+pub mod Opened
+pub mod Accepting
+pub mod Binding
+pub mod Standing
+pub mod Whole

@@ -1,0 +1,5 @@
+pub mod Committed
+pub mod Accepted
+pub mod Honest
+pub mod Whole
+pub mod History

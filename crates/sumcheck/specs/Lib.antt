@@ -1,0 +1,3 @@
+pub mod Checks
+pub mod Rounds
+pub mod Verified

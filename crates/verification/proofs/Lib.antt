@@ -1,0 +1,12 @@
+pub mod Told
+pub mod Verdicts
+pub mod Holding
+pub mod Deciding
+pub mod Showing
+pub mod Describing
+pub mod Parts
+pub mod Saying
+pub mod Following
+pub mod Shaped
+pub mod Sending
+pub mod Sent

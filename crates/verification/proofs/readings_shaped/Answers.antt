@@ -1,0 +1,8 @@
+use Rattle.verification.specs.Setting.{setting}
+use Rattle.verification.proofs.Shaped.{shaped}
+use Rattle.verification.proofs.readings_shaped.Goals as goal
+
+pub returns : goal.returns
+returns g c N o w =
+    shaped (setting N o g.F.Field.ops g.E.Field.ops g.E.PartialEq.eq g.F.BaseField.numbering g.E.ExtensionField.extension w
+    (g.D.WhirDomain.meaning c.args.domain.now) (g.O.OpeningScheme.meaning c.args.scheme.now))

@@ -1,0 +1,9 @@
+pub mod Drawing
+pub mod Proof
+pub mod Setting
+pub mod Verifying
+pub mod Checks
+pub mod Decision
+pub mod Described
+pub mod Observed
+pub mod Shaped
