@@ -1,14 +1,15 @@
 -- The sums and powers fit.
-use Rattle.std.proofs.Common.{◌≡◌, ℕ, zero, suc, ◌+◌, ◌*◌, ◌%◌, ◌^◌, ◌<◌, ◌≤◌, max, true, ◌&&◌, leb, List, [], ◌∷◌, map, length, get_or, fold, sum_by, ap, ◌∙◌, add-one, arith}
+use Rattle.std.proofs.Common.{◌≡◌, ℕ, zero, suc, ◌+◌, ◌-◌, ◌*◌, ◌%◌, ◌^◌, ◌<◌, ◌≤◌, max, true, ◌&&◌, leb, List, [], ◌∷◌, map, length, get_or, fold, sum_by, sym, ap, ◌∙◌, add-one, arith}
 use Rattle.std.specs.List.{range_with_len}
 use Rattle.std.proofs.lemmas.List.FromFn.{sum_by-map-range_with_len_more}
 use Rattle.std.proofs.lemmas.List.Sums.{sum_by-cons}
+use Rattle.std.proofs.lemmas.List.Folds.{fold-map}
 use Rattle.std.proofs.lemmas.Simd.{map-map}
 use Rattle.std.proofs.lemmas.Bool.{and_parts, leb-true}
 use Rattle.configuration.specs.declared.whir_parameters.RoundConfig.{RoundConfig}
 use Rattle.configuration.specs.Numbers.{Numbers}
 use Rattle.configuration.specs.Limits.{within_limits, round_within, all_by, at_most, sizes_within, difficulties_within, others_within, lists_within}
-use Rattle.configuration.specs.Phases.{rows}
+use Rattle.configuration.specs.Phases.{rows, rows_at}
 use Rattle.configuration.specs.Verdicts.{flawless}
 use Rattle.configuration.proofs.Views.{in_order, limited_so, lengths_small, shifted}
 use Rattle.configuration.specs.declared.walk.PhaseNumbers.{PhaseNumbers}
@@ -78,6 +79,13 @@ shown_from p = phase_from p.variables p.rate p.factor p.queries
 
 pub shown_all : (N : Numbers) → map shown_from (phases N N.stored) ≡ phases_of N
 shown_all N = map-map shown_from (phase_at N N.stored) (range_with_len 0 (length N.stored))
+
+-- the rows of a phase that is read, and those of all phases in turn
+abbrev pub rows_read : PhaseNumbers → ℕ
+rows_read p = rows_at (p.variables + p.rate - p.factor) p.queries
+
+pub rows_all : (N : Numbers) → sum_by rows_read (phases N N.stored) ≡ rows_in (phases_of N)
+rows_all N = sym (fold-map (λ a (p : Phase). a + p.rows) shown_from 0 (phases N N.stored)) ∙ ap rows_in (shown_all N)
 
 -- the sums of a checked configuration are small
 pub record SmallSums (N : Numbers) : Type 0 where

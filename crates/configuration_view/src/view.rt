@@ -41,13 +41,16 @@ fn largest_of(factors: &[usize]) -> usize
     factors.iter().copied().fold(0, usize::max)
 }
 
-fn buffers_of(config: &WhirConfig, phases: &[Phase]) -> Buffers
-    requires { phases.now ≡ phases_of (numbers_of config.now.numbers) }
+/// The buffers that a verification under a configuration needs.
+pub fn buffers_needed(config: &WhirConfig) -> Buffers
     ensures { result ≡ buffers_of (numbers_of config.now.numbers) }
 {
     let rounds = config.numbers.round_parameters.as_slice();
     let samples: usize = rounds.iter().map(|round| round.ood_samples).sum();
-    let positions: usize = phases.iter().map(|phase| phase.rows).sum();
+    let positions: usize = config
+        .phases()
+        .map(|phase| phase.positions().unwrap().rows())
+        .sum();
     Buffers {
         point: config.numbers.num_variables,
         pair: 2,
@@ -62,6 +65,6 @@ pub fn view_of(heap: Global, config: &WhirConfig) -> Result<View, AllocError>
     ensures { IfOk result (Shows (numbers_of config.now.numbers)) }
 {
     let phases = phases_of(heap, config)?;
-    let buffers = buffers_of(config, phases.as_slice());
+    let buffers = buffers_needed(config);
     Ok(View { phases, buffers })
 }

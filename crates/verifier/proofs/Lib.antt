@@ -1,0 +1,10 @@
+pub mod Coordinates
+pub mod Summing
+pub mod RowValues
+pub mod Phasing
+pub mod Querying
+pub mod Agreeing
+pub mod JoinedClaims
+pub mod Parsing
+pub mod Prechecks
+pub mod Sampling

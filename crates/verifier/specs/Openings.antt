@@ -1,0 +1,28 @@
+-- What verifying the queries of a phase does. Assumes nothing.
+use Rattle.std.specs.Prelude.{◌≡◌, ℕ, zero, suc, Bool, true, false, List, length, Ok, Err, Option, Result}
+use Rattle.sponge.specs.Play.{Rules, Play, done, ◌>>=◌, ◌>>◌}
+use Rattle.sponge.specs.Plays.{Plays}
+use Rattle.sumcheck.specs.Checks.{ask_all}
+use Rattle.errors.specs.declared.VerifierError.{VerifierError}
+use Rattle.verification.specs.Proof.{Rows, of_base, of_extension, Opening}
+use Rattle.verification.specs.Setting.{Setting}
+use Rattle.verification.specs.Verifying.{queries, opening_checks}
+
+-- whether rows are of the kind that a phase opens
+abbrev pub right_kind : {F E : Type 0} → ℕ → Rows F E → Bool
+right_kind zero (of_base l) = true
+right_kind zero (of_extension l) = false
+right_kind (suc i) (of_base l) = false
+right_kind (suc i) (of_extension l) = true
+
+-- The queries of a phase, and its opening.
+unfoldable pub queried_play : {F E C P : Type 0} → Setting F E C P → ℕ → Option C → F → Opening F E P → Play (VerifierError E) (List ℕ)
+queried_play S i c witness o = do
+  q ← queries S i witness
+  ask_all (opening_checks S i c q.positions o)
+  done q.positions
+
+-- Where it answers, the positions stand in the places; where it refuses, there are as many places as before.
+abbrev pub Queried : {E : Type 0} → Rules → List ℕ → Play (VerifierError E) (List ℕ) → Result Unit (VerifierError E) → List ℕ → (old new : List ℕ) → Type 0
+Queried m s p (Ok u) t old new = Plays m s p (Ok new) t
+Queried m s p (Err e) t old new = Plays m s p (Err e) t × (length new ≡ length old)
