@@ -1,12 +1,13 @@
 -- A round of a sumcheck, call by call.
-use Rattle.std.proofs.Common.{◌≡◌, ℕ, true, false, Bool, List, T, Ok, Err, refl, sym, subst}
+use Rattle.std.proofs.Common.{◌≡◌, ℕ, true, false, Bool, List, T, Ok, Err, Result, refl, sym, ap, ◌∙◌, subst}
 use Rattle.argument.specs.Sumcheck.{Step}
 use Rattle.field.specs.Numbers.{Numbering}
 use Rattle.field.specs.Extension.{Extension}
-use Rattle.sponge.specs.Play.{Rules, Play, done, sure, ◌>>=◌, ◌>>◌}
+use Rattle.sponge.specs.Play.{Rules, Play, done, sure, ◌>>=◌, ◌>>◌, goes_on, run, read}
 use Rattle.sponge.specs.Plays.{Plays, Leads}
 use Rattle.sponge.specs.Deciding.{true?}
 use Rattle.sponge.specs.Drawing.{check_witness, draw_base, draw_extension, observe_extension}
+use Rattle.sponge.proofs.Passing.{passes_run, never}
 use Rattle.sponge.proofs.Leads.{leads_none, leads_sure, leads_yes, leads_no, leads_done}
 use Rattle.sumcheck.specs.declared.errors.SumcheckError.TheVariants.{Grind}
 use Rattle.sumcheck.specs.declared.errors.SumcheckError.{SumcheckError}
@@ -50,3 +51,29 @@ module _ {F E : Type 0} (N : Numbering F) (X : Extension F E) where
         subst (λ b. Plays m s (turn N X (draw_base N) n x) (Ok (record { step = step; clear = b })) w) e
         (leads_done (record { step = step; clear = clear })
         (leads_sure (draw_element N X (draw_base N)) (λ r. done (record { step = record { h0 = x.message.h0; h2 = x.message.h2; r = r }; clear = clear })) (leads_yes (true? clear) (Grind n.phase x.number n.difficulty) _ after_grinding (subst T (sym e) tt)) (element_drawn drawn)))
+
+-- a refusal comes from what follows a play that cannot refuse
+refused_later : {R A B : Type 0} {m : Rules} {s t : List ℕ} {e : R} (p : Play ⊥ A) (f : A → Play R B) → Plays m s (sure p >>= f) (Err e) t → Plays m (read m s p).list (f (read m s p).value) (Err e) t
+refused_later {R} {A} {B} {m} {s} p f h = record { comes = sym (ap (λ c. goes_on c.answer c.list (λ a t. run m t (f a))) (passes_run m s (sure {R = R} p) (never m s p))) ∙ h.comes }
+
+-- .. and there is none where an answer follows
+never_refused : {R A B : Type 0} {m : Rules} {s t : List ℕ} {e : R} (p : Play ⊥ A) (f : A → B) → ¬ (Plays m s (sure p >>= λ a. done (f a)) (Err e) t)
+never_refused {R} {A} {B} {m} {s} {t} {e} p f h =
+    let a : ◌≡◌ {A = Result B R} (Ok (f (read m s p).value)) (Err e) = ap (λ c. c.answer) (refused_later p (λ a. done (f a)) h).comes in
+    cc
+
+-- a test before what cannot refuse: the refusal is its own
+refused_there : {R A : Type 0} {m : Rules} {s t : List ℕ} {e : R} (b : Bool) (r : R) (q : Play R A) → ¬ (Plays m s q (Err e) t) → Plays m s (ask b r >> q) (Err e) t → e ≡ r
+unfolding true?
+refused_there true r q sound h = absurd (sound (record { comes = h.comes }))
+refused_there {R} {A} {m} {s} {t} {e} false r q sound h =
+    let a : ◌≡◌ {A = Result A R} (Err r) (Err e) = ap (λ c. c.answer) h.comes in
+    cc
+
+-- a round that refuses refuses by its witness
+pub refused_by_witness : {F E : Type 0} (N : Numbering F) (X : Extension F E) {m : Rules} {s t : List ℕ} {e : SumcheckError} (n : Rounds) (x : Given E)
+    → Plays m s (turn N X (draw_base N) n x) (Err e) t → e ≡ Grind n.phase x.number n.difficulty
+unfolding turn
+refused_by_witness N X n x h =
+    refused_there _ (Grind n.phase x.number n.difficulty) _ (never_refused (draw_element N X (draw_base N)) _)
+    (refused_later (check_witness n.difficulty x.witness) _ (refused_later (observe_extension N X x.message.h2) _ (refused_later (observe_extension N X x.message.h0) _ h)))

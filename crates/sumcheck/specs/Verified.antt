@@ -1,10 +1,11 @@
 -- What verifying a sumcheck does: to the sponge, to the claim, and to the places for its challenges. Assumes nothing.
-use Rattle.std.specs.Prelude.{◌≡◌, ℕ, true, cond, List, [], ◌∷◌, length, Some, None, Ok, Err, Option, Result, ◌==◌}
+use Rattle.std.specs.Prelude.{◌≡◌, ℕ, true, cond, List, [], ◌∷◌, ◌++◌, take, drop, Some, None, Ok, Err, Option, Result, ◌==◌}
 use Rattle.ring.specs.Ring.{Ops}
 use Rattle.argument.specs.Sumcheck.{after}
-use Rattle.sponge.specs.Play.{Rules, Play}
+use Rattle.sponge.specs.Play.{Rules, Play, read}
 use Rattle.sponge.specs.Plays.{Plays}
 use Rattle.sumcheck.specs.declared.errors.SumcheckError.{SumcheckError}
+use Rattle.sumcheck.specs.declared.errors.SumcheckError.TheVariants.{MessageCount, WitnessCount, Grind}
 use Rattle.sumcheck.specs.declared.Site.{Site}
 use Rattle.sumcheck.specs.declared.SumcheckSlices.{SumcheckSlices}
 use Rattle.sumcheck.specs.Checks.{Check}
@@ -39,7 +40,14 @@ pub record Followed {E : Type 0} (F : Ops E) (m : Rules) (s : List ℕ) (p : Pla
   pub claim : after_it ≡ after F before (steps turns)
   pub challenges : places ≡ challenges_of turns
 
--- The answer is the claim after the sumcheck; or the refusal is the play's, and there are as many places as before.
+-- The round that refuses; where a count is wrong none was played.
+abbrev pub refused_at : SumcheckError → ℕ
+refused_at (MessageCount phase expected actual) = 0
+refused_at (WitnessCount phase expected actual) = 0
+refused_at (Grind phase round bits) = round
+
+-- The answer is the claim after the sumcheck; or the refusal is the play's. Then the challenges drawn before the round that refuses stand in
+-- the first places, as they are read where nothing is checked, and behind them stands what stood there before.
 abbrev pub Verified : {E : Type 0} → Ops E → Rules → List ℕ → Play SumcheckError (List (Turn E)) → List ℕ → E → Result E SumcheckError → (before after_it : List E) → Type 0
 Verified F m s p t c (Ok d) old new = Followed F m s p t c d new
-Verified F m s p t c (Err e) old new = Plays m s p (Err e) t × (length new ≡ length old)
+Verified F m s p t c (Err e) old new = Plays m s p (Err e) t × (new ≡ take (refused_at e) (challenges_of (read m s p).value) ++ drop (refused_at e) old)

@@ -14,6 +14,8 @@ use sponge::Sponge;
 use sponge::drawing::{check_witness, draw_extension, observe_extension};
 
 pub mod errors;
+#[cfg(test)]
+mod tests;
 
 /// Which sumcheck it is, by the number of those before it, and the difficulty of each round's grinding.
 #[derive(Clone, Copy, PartialEq, Eq, Debug)]

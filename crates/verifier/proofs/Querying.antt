@@ -1,7 +1,8 @@
 -- The queries of a phase: what the calls of their verification come to, as plays.
-use Rattle.std.proofs.Common.{◌≡◌, ℕ, ◌≤◌, min, Bool, true, false, cond, List, [], ◌∷◌, ◌++◌, length, drop, IsErrAnd, Ok, Err, Option, Result, sym, refl, ap, ◌∙◌, subst, arith}
+use Rattle.std.proofs.Common.{◌≡◌, ℕ, ◌≤◌, min, Bool, true, false, cond, List, [], ◌∷◌, ◌++◌, length, drop, IsErrAnd, Ok, Err, Option, Result, ◌==◌, sym, refl, ap, ◌∙◌, subst, arith}
 use Rattle.std.proofs.lemmas.List.{drop_all, append-nil}
-use Rattle.sponge.specs.Play.{Rules, Play, done, ◌>>◌, Outcome, reworded, goes_on, tested, run}
+use Rattle.sponge.specs.Play.{Rules, Play, done, ◌>>◌, Outcome, reworded, goes_on, tested, run, read}
+use Rattle.sponge.proofs.Passing.{plays_read}
 use Rattle.sponge.specs.Plays.{Plays, Leads}
 use Rattle.sponge.specs.Deciding.{true?}
 use Rattle.sponge.specs.Drawing.{check_witness}
@@ -18,13 +19,15 @@ use Rattle.transcript.specs.declared.failure.TranscriptFailure.{TranscriptFailur
 use Rattle.transcript.specs.declared.failure.TranscriptFailure.TheVariants.{PowWitness}
 use Rattle.sumcheck.specs.Checks.{Check, ask_all}
 use Rattle.errors.specs.declared.VerifierError.{VerifierError}
-use Rattle.errors.specs.declared.VerifierError.TheVariants.{InvalidPowWitness}
+use Rattle.errors.specs.declared.VerifierError.TheVariants.{InvalidPowWitness, MerkleProofInvalid, StirQueryCountMismatch}
+use Rattle.errors.specs.declared.OpeningFault.TheVariants.{Kind}
 use Rattle.errors.specs.Told.{of_transcript}
 use Rattle.verification.specs.Proof.{Opening}
 use Rattle.verification.specs.Setting.{Setting, last}
 use Rattle.verification.specs.Checks.{verdict}
-use Rattle.verification.specs.Verifying.{Queries, queries, opening_checks}
-use Rattle.verifier.specs.Openings.{queried_play, Queried}
+use Rattle.verification.specs.Verifying as verification
+use Rattle.verification.specs.Verifying.{Queries, queries, opening_checks, rows_right, fault_of}
+use Rattle.verifier.specs.Openings.{queried_play, left_by, Queried}
 
 -- a grinding that is passed, and one that is refused, each with what the bits say
 module _ {F : Type 0} (m : Rules) (s t : List ℕ) (n : Numbering F) (N : Numbers) (round : ℕ) (witness : F) where
@@ -77,6 +80,29 @@ asked {R} m s (c ∷ cs) = go c.holds c.refusal (asked m s cs)
     go true r k = record { comes = k.comes }
     go false r k = record { comes = refl }
 
+-- a refusal of an opening is none of the grinding
+opening_left : {F E C P : Type 0} (S : Setting F E C P) (i : ℕ) (c : Option C) (o : Opening F E P) (ps : List ℕ) (e : VerifierError E) (a b : List ℕ)
+    → verdict (opening_checks S i c ps o) (tt {0}) ≡ Err e → left_by e a b ≡ b
+opening_left {E = E} S i c o ps e a b h = go (verification.right_kind S i o.rows) (o.count == length ps) (rows_right S i c ps o.rows o.paths) h
+  where
+    kind : VerifierError E
+    kind = MerkleProofInvalid i 0 Kind
+
+    wrong : VerifierError E
+    wrong = MerkleProofInvalid i 0 (fault_of S o.rows)
+
+    count : VerifierError E
+    count = StirQueryCountMismatch i (length ps) o.count
+
+    named : (x : VerifierError E) → left_by x a b ≡ b → ◌≡◌ {A = Result (Unit {0}) (VerifierError E)} (Err x) (Err e) → left_by e a b ≡ b
+    named x l g = let same : x ≡ e = cc in subst (λ y. left_by y a b ≡ b) same l
+
+    go : (k n r : Bool) → ◌≡◌ {A = Result (Unit {0}) (VerifierError E)} (cond k (cond n (cond r (Ok tt) (Err wrong)) (Err count)) (Err kind)) (Err e) → left_by e a b ≡ b
+    go false n r g = named kind refl g
+    go true false r g = named count refl g
+    go true true false g = named wrong refl g
+    go true true true g = absurd cc
+
 module _ {F E C P : Type 0} (S : Setting F E C P) (m : Rules) (s t : List ℕ) (i : ℕ) (w : F) where
   abbrev failure : VerifierError E
   failure = InvalidPowWitness i (difficulty S.numbers i)
@@ -98,26 +124,32 @@ module _ {F E C P : Type 0} (S : Setting F E C P) (m : Rules) (s t : List ℕ) (
   queries_refused h = leads_no (true? false) failure _ (leads_sure clears _ (leads_none m s (queries S i w)) h) (λ z. z)
 
   module _ (c : Option C) (o : Opening F E P) (before : List ℕ) where
+    -- the positions that are drawn are those that are read
+    read_drawn : (u : List ℕ) (q : Queries) → Plays m s (queries S i w) (Ok q) u → q.positions ≡ (read m s (queried_play S i c w o)).value
+    unfolding queried_play
+    read_drawn u q h = let k = plays_read (queries S i w) h in ap (λ z. z.positions) (sym k.1)
+
     -- the answer of the opening's tests is the answer of the whole
     pub queried_by : (u : List ℕ) (q : Queries) (r : Result Unit (VerifierError E)) → Plays m s (queries S i w) (Ok q) u → length q.positions ≡ length before → r ≡ verdict (opening_checks S i c q.positions o) tt
         → Queried m s (queried_play S i c w o) r u before q.positions
     unfolding queried_play
-    queried_by u q r h long is = go r (subst (λ v. Plays m u (ask_all (opening_checks S i c q.positions o)) v u) (sym is) (asked m u (opening_checks S i c q.positions o)))
+    queried_by u q r h long is = go r is (subst (λ v. Plays m u (ask_all (opening_checks S i c q.positions o)) v u) (sym is) (asked m u (opening_checks S i c q.positions o)))
       where
         left : Leads m s (queried_play S i c w o) u (ask_all (opening_checks S i c q.positions o) >> done q.positions)
         left = leads_more (queries S i w) (λ q. ask_all (opening_checks S i c q.positions o) >> done q.positions) (leads_none m s (queried_play S i c w o)) h
 
-        go : (v : Result Unit (VerifierError E)) → Plays m u (ask_all (opening_checks S i c q.positions o)) v u → Queried m s (queried_play S i c w o) v u before q.positions
-        go (Ok x) p = leads_done q.positions (leads_more (ask_all (opening_checks S i c q.positions o)) (λ _. done q.positions) left p)
-        go (Err e) p = (leads_refused (ask_all (opening_checks S i c q.positions o)) (λ _. done q.positions) left p, long)
+        go : (v : Result Unit (VerifierError E)) → v ≡ verdict (opening_checks S i c q.positions o) tt → Plays m u (ask_all (opening_checks S i c q.positions o)) v u → Queried m s (queried_play S i c w o) v u before q.positions
+        go (Ok x) k p = leads_done q.positions (leads_more (ask_all (opening_checks S i c q.positions o)) (λ _. done q.positions) left p)
+        go (Err e) k p =
+            (leads_refused (ask_all (opening_checks S i c q.positions o)) (λ _. done q.positions) left p, long, read_drawn u q h ∙ sym (opening_left S i c o q.positions e before (read m s (queried_play S i c w o)).value (sym k)))
 
     -- the grinding is refused, and `?` hands the refusal on
     pub queried_refused : (e : VerifierError E) (r : Result Unit (VerifierError E)) → e ≡ failure → IsErrAnd r (λ x. x ≡ e) → Plays m s clears (Ok false) t → Queried m s (queried_play S i c w o) r t before before
     unfolding queried_play
     queried_refused e (Ok u) same h k = absurd h
     queried_refused e (Err x) same h k =
-        subst (λ y. Plays m s (queried_play S i c w o) (Err y) t × (length before ≡ length before)) (sym (h ∙ same))
-        (leads_refused (queries S i w) (λ q. ask_all (opening_checks S i c q.positions o) >> done q.positions) (leads_none m s (queried_play S i c w o)) (queries_refused k), refl)
+        subst (λ y. Plays m s (queried_play S i c w o) (Err y) t × (length before ≡ length before) × (before ≡ left_by y before (read m s (queried_play S i c w o)).value)) (sym (h ∙ same))
+        (leads_refused (queries S i w) (λ q. ask_all (opening_checks S i c q.positions o) >> done q.positions) (leads_none m s (queried_play S i c w o)) (queries_refused k), refl, refl)
 
 -- The two steps of a run, for a phase that there is.
 module _ {F E C P : Type 0} (S : Setting F E C P) (m : Rules) (s t : List ℕ) (i : ℕ) (w : F) (N : Numbers) (same : N ≡ S.numbers) (there : i ≤ last S) (c : Option C) (o : Opening F E P) (before : List ℕ) where

@@ -1,5 +1,5 @@
 -- What parsing a round's commitment does. Assumes nothing.
-use Rattle.std.specs.Prelude.{◌≡◌, ℕ, List, length, Some, Ok, Err, Result}
+use Rattle.std.specs.Prelude.{◌≡◌, ℕ, List, Some, Ok, Err, Result}
 use Rattle.std.specs.Borrow.{Bor}
 use Rattle.sponge.specs.Play.{Rules, Play, done, observe, sure, ◌>>=◌, ◌>>◌, each}
 use Rattle.sponge.specs.Plays.{Plays}
@@ -26,8 +26,7 @@ parsed_play S x = do
   samples ← sure (each (sample S) x.part.answers)
   done samples
 
--- Where it answers, it is with the round's commitment, and the samples stand in the places; where it refuses, there are as many places as
--- before.
+-- Where it answers, it is with the round's commitment, and the samples stand in the places; where it refuses, the places are untouched.
 abbrev pub Parsed : {F E C P : Type 0} → Setting F E C P → Rules → List ℕ → Item F E C P → Result (Bor C) (VerifierError E) → List ℕ → (old new : List E) → Type 0
 Parsed S m s x (Ok c) t old new = (x.part.commitment ≡ Some c.now) × Plays m s (parsed_play S x) (Ok new) t
-Parsed S m s x (Err e) t old new = Plays m s (parsed_play S x) (Err e) t × (length new ≡ length old)
+Parsed S m s x (Err e) t old new = Plays m s (parsed_play S x) (Err e) t × (new ≡ old)

@@ -1,4 +1,4 @@
-use Rattle.std.proofs.Common.{length, map, take, drop}
+use Rattle.std.proofs.Common.{◌≡◌, length, map, take, drop}
 use Rattle.sponge.specs.Drawing.{draw_base}
 use Rattle.sumcheck.specs.Rounds.{turn, sumcheck, rounds_given}
 use Rattle.sumcheck.specs.Verified.{sent_by, rounds_at}
@@ -13,4 +13,4 @@ invariant-loop-round g l =
     let n = rounds_at l.site (length l.initial.randomness) in
     let p = sent_by l.sent in
     Underway g.E.Field.ops m.rules (m.held l.initial.sponge) (sumcheck N X (draw_base N) n p) (turn N X (draw_base N) n) (drop l.round (rounds_given 0 p.messages (map N.number p.witnesses)))
-    (m.held l.sponge) l.initial.claim l.claim (take l.round l.randomness)
+    (m.held l.sponge) l.initial.claim l.claim (take l.round l.randomness) × (drop l.round l.randomness ≡ drop l.round l.initial.randomness)
