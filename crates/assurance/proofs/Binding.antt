@@ -32,7 +32,8 @@ use Rattle.assurance.proofs.Counting.{before_count, draws_count, last_phase_left
 use Rattle.assurance.proofs.Fitting.{turns_drawn, whole_left, whole_before, samples_extend, claims_extend}
 use Rattle.assurance.proofs.Accepting.{accepted}
 use Rattle.assurance.proofs.Matrices.{point_long}
-use Rattle.assurance.proofs.Opened.{OfPhase, rows_of_phase}
+use Rattle.assurance.proofs.Openings.{OfPhase}
+use Rattle.assurance.proofs.Opened.{rows_of_phase}
 
 -- what holds of each of the points of all positions holds at each position
 at_position : {A : Type 0} (Q : A → Type 0) (f : ℕ → A) (k n : ℕ) → AllByRecursion Q (map f (counted k n)) → (i : ℕ) → k ≤ i → i < k + n → Q (f i)

@@ -9,7 +9,7 @@ use Rattle.multilinear.specs.declared.order.VariableOrder.{VariableOrder}
 use Rattle.multilinear.specs.Tables.{orient, view, folded}
 use Rattle.argument.specs.Sumcheck.{Step, before, TrueSteps}
 use Rattle.argument.specs.Claims.{Claim, Extends as ClaimExtends, TrueOf, weight, weight_at, joint}
-use Rattle.argument.specs.Reading.{Query, Tail, end, left, last_draws, polynomial, queried, fresh, later_weight, all_draws, LastRowsAgree, Accepted}
+use Rattle.argument.specs.Reading.{Query, Tail, end, left, queried, fresh, later_weight, all_draws, LastRowsAgree, Accepted}
 use Rattle.argument.specs.Accidents.{onward}
 use Rattle.argument.specs.Honest.{TrueClaim, OwnRow, Honest}
 use Rattle.argument.proofs.Weights.{length_folded}
@@ -27,6 +27,7 @@ use Rattle.assurance.specs.Committed.{Fitted, embedded, tables}
 use Rattle.assurance.specs.Honest.{fresh_claims, HonestEnd, HonestRounds, HonestProof, HonestAccepted}
 use Rattle.verification.specs.Shaped.{RoundShaped, Shaped}
 use Rattle.verification.proofs.Shaped.{shaped}
+use Rattle.assurance.proofs.Accepting.{polynomial_at_end, draws_at_end}
 use Rattle.assurance.proofs.Counting.{before_count, draws_count, last_phase_left, left_rounds}
 use Rattle.assurance.proofs.Fitting.{turns_drawn, whole_left, whole_before, samples_extend, claims_extend}
 use Rattle.assurance.proofs.Openings.{own_queries, OfPhase, later_there, own_right}
@@ -58,13 +59,6 @@ module _ {F E C P : Type 0} (S : Setting F E C P) where
   last_agree D [] (a ∷ l) ts us f qs d h = absurd d
   last_agree D (x ∷ xs) [] ts us f qs d h = absurd d
   last_agree D (x ∷ xs) (a ∷ l) ts us f qs d h = last_agree D xs l a.turns us f qs d.1 h
-
-  -- the polynomial and the draws at the end are the final ones
-  pub polynomial_last : (xs : List (Item F E C P)) (l : List (RoundReading E)) (us : List (Turn E)) (f : List E) (qs : List (Query E))
-      → view S.field S.order (polynomial (tail_of S xs l (end f qs (steps us)))) (last_draws (tail_of S xs l (end f qs (steps us)))) ≡ view S.field S.order f (challenges_of us)
-  polynomial_last [] l us f qs = refl
-  polynomial_last (x ∷ xs) [] us f qs = refl
-  polynomial_last (x ∷ xs) (a ∷ l) us f qs = polynomial_last xs l us f qs
 
   -- An honest proof of a reading.
   module _ (Of : C → List (List F) → Type 0) (K : IsField S.field) (X : Extends S.base S.field S.extension) (Z : Sized S.extension.degree)
@@ -182,7 +176,7 @@ module _ {F E C P : Type 0} (S : Setting F E C P) where
           opening = own_right S g gs Of W X Z (last S) (newest c ps) r.positions (given S I).opening Q.positions.placed.within z.of z.honest.opening;
           agree = last_agree (RoundRight S) (all_items S I) r.rounds r.initial r.final f qs right accepted.rows;
           final = z.honest.counts;
-          closing = accepted.closing ∙ ap (S.field.mul weighs) (polynomial_last (all_items S I) r.rounds r.final f qs);
+          closing = accepted.closing ∙ ap (S.field.mul weighs) (ap₂ (view S.field S.order) (polynomial_at_end S (all_items S I) r.rounds f qs (steps r.final)) (draws_at_end S (all_items S I) r.rounds f qs (steps r.final)));
         }
 
 -- From every list, an honest proof is decided for and accepted. (Of verification: it accepts exactly by the decision.)

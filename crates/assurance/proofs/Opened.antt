@@ -15,7 +15,8 @@ use Rattle.verification.specs.Proof.{Rows, of_base, of_extension}
 use Rattle.verification.specs.Setting.{Setting, folds, log_positions, point_at}
 use Rattle.verification.specs.Verifying.{queries_at, elements_of, right_kind}
 use Rattle.verification.specs.Verifying as v
-use Rattle.assurance.specs.Committed.{base_rows, extension_rows, embedded, later_scheme, tables, committed_lists, checked_by, checked_in, OfLater}
+use Rattle.assurance.proofs.Openings.{OfPhase}
+use Rattle.assurance.specs.Committed.{base_rows, extension_rows, embedded, later_scheme, tables, committed_lists, checked_by, checked_in}
 use Rattle.assurance.proofs.Matrices.{base_high, base_wide, base_row_embedded, later_high, later_wide, later_row_at}
 
 -- A collision stays one among more lists that are digested in checking.
@@ -82,12 +83,6 @@ module _ {F E C P : Type 0} (S : Setting F E C P) (g : List F) (gs : ℕ → Lis
           subst (λ (t : List E). AllByRecursion (Owns (folds S i) table Z) (queries_at S i ps t)) (sym (drops w l)) rest,
         )
 
-  -- the commitment that phase i opens is there, and is of the rows of its table
-  abbrev pub OfPhase : (C → List (List F) → Type 0) → ℕ → Option C → Type 0
-  OfPhase Of zero None = ⊥
-  OfPhase Of zero (Some c) = Of c (base_rows S g)
-  OfPhase Of (suc i) c = OfLater S g gs Of i c
-
   -- An opening of phase i is right: its rows are those of the phase's table, or lists of the phase collide.
   module _ (H : Extends S.base S.field S.extension) (Of : C → List (List F) → Type 0) (laws : Laws S.scheme Of)
       (later_laws : Laws (later_scheme S) (λ c matrix. Of c (map (spread S.extension) matrix))) where
@@ -119,7 +114,7 @@ module _ {F E C P : Type 0} (S : Setting F E C P) (g : List F) (gs : ℕ → Lis
         (and_parts n (rows_right m c w p is l paths) (and_parts (eqb (length l) (length is * w)) (n && rows_right m c w p is l paths) o).1).1
 
     -- the kind tells which
-    pub rows_of_phase : (i : ℕ) (c : Option C) (ps : List ℕ) (rows : Rows F E) (paths : List P) → right_kind S i rows ≡ true → v.rows_right S i c ps rows paths ≡ true → OfPhase Of i c → RowsHold i ps rows paths
+    pub rows_of_phase : (i : ℕ) (c : Option C) (ps : List ℕ) (rows : Rows F E) (paths : List P) → right_kind i rows ≡ true → v.rows_right S i c ps rows paths ≡ true → OfPhase S g gs Of i c → RowsHold i ps rows paths
     rows_of_phase zero None ps rows paths kind right of = absurd of
     rows_of_phase zero (Some c) ps (of_base l) paths kind right of = first_rows c ps l paths (opened S.scheme c (2 ^ folds S 0) (2 ^ log_positions S 0) ps l paths right) of
     rows_of_phase zero (Some c) ps (of_extension l) paths kind right of = absurd (true≢false (sym kind))

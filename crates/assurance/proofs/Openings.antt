@@ -76,7 +76,7 @@ module _ {F E C P : Type 0} (S : Setting F E C P) (g : List F) (gs : ℕ → Lis
         let w : ℕ = 2 ^ folds S 0 in
         let p : ℕ = 2 ^ log_positions S 0 in
         record {
-          kind = ap (right_kind S 0) h.rows;
+          kind = ap (right_kind 0) h.rows;
           count = h.count;
           rows =
               ap₂ (λ x y. rows_right S 0 (Some c) ps x y) h.rows h.paths
@@ -90,7 +90,7 @@ module _ {F E C P : Type 0} (S : Setting F E C P) (g : List F) (gs : ℕ → Lis
         let p : ℕ = 2 ^ log_positions S (suc i) in
         let laws : Laws (later_scheme S) (λ d matrix. Of d (map (spread S.extension) matrix)) = extended_laws S.extension X.count (some_degree Z) X.settled S.scheme Of W in
         record {
-          kind = ap (right_kind S (suc i)) h.rows;
+          kind = ap (right_kind (suc i)) h.rows;
           count = h.count;
           rows =
               ap₂ (λ x y. rows_right S (suc i) (Some c) ps x y) h.rows h.paths

@@ -43,7 +43,7 @@ pub record SumcheckRight {F E : Type 0} (n : Sumcheck) (p : Sent F E) (ts : List
 module _ {F E C P : Type 0} (S : Setting F E C P) where
   -- An opening is of the phase's kind, has a row for each position, and every row is right.
   pub record OpeningRight (i : ℕ) (c : Option C) (ps : List ℕ) (o : Opening F E P) : Type 0 where
-    pub kind : right_kind S i o.rows ≡ true
+    pub kind : right_kind i o.rows ≡ true
     pub count : o.count ≡ length ps
     pub rows : rows_right S i c ps o.rows o.paths ≡ true
 

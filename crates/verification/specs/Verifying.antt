@@ -54,6 +54,13 @@ abbrev pub newest_draws : {E : Type 0} → List (Turn E) → List (RoundReading 
 newest_draws ts [] = challenges_of ts
 newest_draws ts (a ∷ l) = newest_draws a.turns l
 
+-- Phase 0 opens rows of the base, and each later phase rows of the extension.
+abbrev pub right_kind : {F E : Type 0} → ℕ → Rows F E → Bool
+right_kind zero (of_base l) = true
+right_kind zero (of_extension l) = false
+right_kind (suc i) (of_base l) = false
+right_kind (suc i) (of_extension l) = true
+
 module _ {F E C P : Type 0} (S : Setting F E C P) where
   -- An element is drawn by its coefficients in turn.
   abbrev pub draw_element : Play ⊥ E
@@ -73,13 +80,6 @@ module _ {F E C P : Type 0} (S : Setting F E C P) where
     ask clear (InvalidPowWitness i (difficulty S.numbers i))
     drawn ← sure (positions S.numbers i)
     done (record { clear = clear; positions = drawn })
-
-  -- Phase 0 opens rows of the base, and each later phase rows of the extension.
-  abbrev pub right_kind : ℕ → Rows F E → Bool
-  right_kind zero (of_base l) = true
-  right_kind zero (of_extension l) = false
-  right_kind (suc i) (of_base l) = false
-  right_kind (suc i) (of_extension l) = true
 
   -- The rows are right against a commitment: the lengths are those of so many rows of 2^k elements and of their paths, and every row is
   -- right at its position.

@@ -25,8 +25,7 @@ use Rattle.errors.specs.Told.{of_transcript}
 use Rattle.verification.specs.Proof.{Opening}
 use Rattle.verification.specs.Setting.{Setting, last}
 use Rattle.verification.specs.Checks.{verdict}
-use Rattle.verification.specs.Verifying as verification
-use Rattle.verification.specs.Verifying.{Queries, queries, opening_checks, rows_right, fault_of}
+use Rattle.verification.specs.Verifying.{Queries, queries, right_kind, opening_checks, rows_right, fault_of}
 use Rattle.verifier.specs.Openings.{queried_play, left_by, Queried}
 
 -- a grinding that is passed, and one that is refused, each with what the bits say
@@ -83,7 +82,7 @@ asked {R} m s (c ∷ cs) = go c.holds c.refusal (asked m s cs)
 -- a refusal of an opening is none of the grinding
 opening_left : {F E C P : Type 0} (S : Setting F E C P) (i : ℕ) (c : Option C) (o : Opening F E P) (ps : List ℕ) (e : VerifierError E) (a b : List ℕ)
     → verdict (opening_checks S i c ps o) (tt {0}) ≡ Err e → left_by e a b ≡ b
-opening_left {E = E} S i c o ps e a b h = go (verification.right_kind S i o.rows) (o.count == length ps) (rows_right S i c ps o.rows o.paths) h
+opening_left {E = E} S i c o ps e a b h = go (right_kind i o.rows) (o.count == length ps) (rows_right S i c ps o.rows o.paths) h
   where
     kind : VerifierError E
     kind = MerkleProofInvalid i 0 Kind

@@ -1,20 +1,13 @@
 -- What verifying the queries of a phase does. Assumes nothing.
-use Rattle.std.specs.Prelude.{◌≡◌, ℕ, zero, suc, Bool, true, false, List, length, Ok, Err, Option, Result}
+use Rattle.std.specs.Prelude.{◌≡◌, ℕ, List, length, Ok, Err, Option, Result}
 use Rattle.sponge.specs.Play.{Rules, Play, done, read, ◌>>=◌, ◌>>◌}
 use Rattle.sponge.specs.Plays.{Plays}
 use Rattle.sumcheck.specs.Checks.{ask_all}
 use Rattle.errors.specs.declared.VerifierError.{VerifierError}
 use Rattle.errors.specs.declared.VerifierError.TheVariants.{Limit, BufferTooSmall, RoundCountMismatch, NonCanonicalPowWitness, Sumcheck, MissingRoundCommitment, RoundOodAnswerCountMismatch, InvalidPowWitness, MerkleProofInvalid, StirQueryCountMismatch, MissingFinalPoly, FinalPolyLengthMismatch, StirChallengeFailed, SumcheckFailed}
-use Rattle.verification.specs.Proof.{Rows, of_base, of_extension, Opening}
+use Rattle.verification.specs.Proof.{Opening}
 use Rattle.verification.specs.Setting.{Setting}
 use Rattle.verification.specs.Verifying.{queries, opening_checks}
-
--- whether rows are of the kind that a phase opens
-abbrev pub right_kind : {F E : Type 0} → ℕ → Rows F E → Bool
-right_kind zero (of_base l) = true
-right_kind zero (of_extension l) = false
-right_kind (suc i) (of_base l) = false
-right_kind (suc i) (of_extension l) = true
 
 -- The queries of a phase, and its opening.
 unfoldable pub queried_play : {F E C P : Type 0} → Setting F E C P → ℕ → Option C → F → Opening F E P → Play (VerifierError E) (List ℕ)

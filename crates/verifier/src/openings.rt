@@ -5,9 +5,9 @@ ghost use Rattle.configuration.specs.Phases.{rows};
 ghost use Rattle.verification.specs.Drawing.{by_word};
 ghost use Rattle.verification.specs.Setting.{setting, last};
 ghost use Rattle.verification.specs.Checks.{verdict};
-ghost use Rattle.verification.specs.Verifying.{opening_checks, rows_right};
+ghost use Rattle.verification.specs.Verifying.{right_kind, opening_checks, rows_right};
 ghost use Rattle.verifier.specs.Rows.{rows_of, opening_of};
-ghost use Rattle.verifier.specs.Openings.{right_kind, queried_play, Queried};
+ghost use Rattle.verifier.specs.Openings.{queried_play, Queried};
 
 use crate::WhirVerifier;
 use crate::phases::phase_shape;
