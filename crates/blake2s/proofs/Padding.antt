@@ -1,6 +1,6 @@
 -- A block filled up with zeros.
 use Rattle.std.proofs.Common.{◌≡◌, ℕ, ◌+◌, ◌-◌, ◌≤◌, List, ◌++◌, length, take, drop, replicate, sym, ap, ◌∙◌, arith}
-use Rattle.std.proofs.lemmas.List.{take_all, append_assoc, append-nil, drop-replicate, length-append, length-replicate, replicate-append-replicate, take_at, take-append-le}
+use Rattle.std.proofs.lemmas.List.{append_assoc, append-nil, drop-drop, drop-replicate, drop_at, length-append, length-replicate, length-take-le, replicate-append-replicate, take-append-drop, take_at, take-append-le}
 use Rattle.blake2s.specs.Blake2s.{padded}
 
 -- what padding gives, written out
@@ -16,16 +16,34 @@ padded_is ys n long le =
     ∙ ap (take 64) (sym (append_assoc ys (replicate (64 - n) 0) (replicate n 0)))
     ∙ take_at (ys ++ replicate (64 - n) 0) (replicate n 0) 64 front
 
--- bytes with as many zeros as are wanting to a block
-pub filled_up : (ys zs : List ℕ) (n : ℕ)
-    → n ≡ length ys
-    → n ≤ 64
-    → zs ≡ ys ++ take (64 - n) (drop n (replicate 64 0))
-    → zs ≡ padded ys
-filled_up ys zs n long le e =
-    let rest : drop n (replicate {A = ℕ} 64 0) ≡ replicate (64 - n) 0 = drop-replicate n 64 0 in
-    let short : length (drop n (replicate {A = ℕ} 64 0)) ≤ 64 - n = omega (arith, ap length rest, length-replicate {A = ℕ} (64 - n) 0) in
-    e ∙ ap (λ (ws : List ℕ). ys ++ ws) (take_all (64 - n) _ short ∙ rest) ∙ sym (padded_is ys n (sym long) le)
+-- behind the bytes that a block was filled up from are zeros
+behind : (bs : List ℕ) (f n : ℕ)
+    → length bs ≡ 64
+    → f + n ≤ 64
+    → bs ≡ padded (take f bs)
+    → drop (f + n) bs ≡ replicate (64 - (f + n)) 0
+behind bs f n long fits clear =
+    let front : length (take f bs) ≡ f = length-take-le f bs (omega arith) in
+    let left : 64 - f - n ≡ 64 - (f + n) = omega arith in
+    let zeros : drop f bs ≡ replicate (64 - f) 0 =
+    ap (drop f) (clear ∙ padded_is (take f bs) f front (omega arith)) ∙ drop_at (take f bs) (replicate (64 - f) 0) f front in
+    sym (drop-drop n f bs) ∙ ap (drop n) zeros ∙ drop-replicate n (64 - f) 0 ∙ ap (λ (k : ℕ). replicate k 0) left
+
+-- more bytes put into such a block
+pub padded_more : (bs now more : List ℕ) (f n : ℕ)
+    → length bs ≡ 64
+    → length more ≡ n
+    → f + n ≤ 64
+    → bs ≡ padded (take f bs)
+    → take (f + n) now ≡ take f bs ++ more
+    → drop (f + n) now ≡ drop (f + n) bs
+    → now ≡ padded (take (f + n) now)
+padded_more bs now more f n long part fits clear front same =
+    let filled : length (take (f + n) now) ≡ f + n =
+    omega (arith, ap length front, length-append (take f bs) more, length-take-le f bs (omega arith)) in
+    sym (take-append-drop (f + n) now)
+    ∙ ap (λ (zs : List ℕ). take (f + n) now ++ zs) (same ∙ behind bs f n long fits clear)
+    ∙ sym (padded_is (take (f + n) now) (f + n) filled fits)
 
 -- a whole block is not changed
 pub padded_whole : (ys : List ℕ) → length ys ≡ 64 → padded ys ≡ ys

@@ -1,5 +1,5 @@
 -- What a hasher in progress has taken in.
-use Rattle.std.specs.Prelude.{◌≡◌, ℕ, ◌+◌, ◌*◌, ◌<◌, ◌≤◌, false, List, [], ◌++◌, length, take, drop}
+use Rattle.std.specs.Prelude.{◌≡◌, ℕ, ◌+◌, ◌*◌, ◌<◌, ◌≤◌, false, List, ◌++◌, length, take, drop}
 use Rattle.blake2s.specs.Compress.{compressed}
 use Rattle.blake2s.specs.Blake2s.{words, chain, counter}
 use Rattle.blake2s.specs.declared.state.Hasher.{Hasher}
@@ -8,8 +8,8 @@ use Rattle.blake2s.specs.declared.state.Hasher.{Hasher}
 pub record Cut (s : Hasher) (xs : List ℕ) (n : ℕ) : Type 0 where
   pub state : s.h ≡ chain xs n
   pub counted : s.count ≡ counter (64 * n)
-  pub waits : s.block.items ≡ drop (64 * n) xs
-  pub whole : 64 * n + length s.block.items ≡ length xs
+  pub waits : take s.filled s.block ≡ drop (64 * n) xs
+  pub whole : 64 * n + s.filled ≡ length xs
 
 -- some number of blocks of xs are compressed
 abbrev pub Ready : Hasher → List ℕ → Type 0
@@ -19,17 +19,17 @@ Ready s xs = (n : ℕ) × Cut s xs n
 pub record Absorbed (s : Hasher) (xs : List ℕ) : Type 0 where
   pub blocks : ℕ
   pub cut : Cut s xs blocks
-  pub held : 0 < blocks → 0 < length s.block.items
+  pub held : 0 < blocks → 0 < s.filled
 
 -- what compressing the block that some bytes begin with makes of a hasher
 pub record Pressed (s s' : Hasher) (bytes : List ℕ) : Type 0 where
   pub state : s'.h ≡ compressed s.h (words bytes) s'.count false
   pub counted : s'.count ≡ counter (s.count + 64)
-  pub emptied : s'.block.items ≡ []
+  pub emptied : s'.filled ≡ 0
 
 -- r of the bytes were taken in, at least one; where they were the last ones, the buffer is not empty
 pub record Taken (s s' : Hasher) (rest : List ℕ) (r : ℕ) : Type 0 where
   pub some : 0 < r
   pub within : r ≤ length rest
-  pub held : r ≡ length rest → 0 < length s'.block.items
+  pub held : r ≡ length rest → 0 < s'.filled
   pub keeps : (xs : List ℕ) (n : ℕ) → Cut s xs n → Ready s' (xs ++ take r rest)

@@ -4,8 +4,10 @@
 mod compress;
 mod state;
 mod stream;
+#[cfg(test)]
+mod tests;
 
-ghost use Rattle.std.specs.Prelude.{◌≡◌, map};
+ghost use Rattle.std.specs.Prelude.{◌≡◌, ◌++◌, map};
 ghost use Rattle.std.specs.List.{concat};
 ghost use Rattle.blake2s.specs.Blake2s.{hash};
 ghost use Rattle.blake2s.specs.Laws.{CollisionsAreOfCompression, HashesAreThirtyTwoBytes};
@@ -29,6 +31,20 @@ pub fn hash_pieces(pieces: &[&[u8]]) -> [u8; 32]
         hasher.update(piece);
     }
     hasher.finish()
+}
+
+/// The hash of two pieces, one after the other.
+pub fn hash_two(left: &[u8], right: &[u8]) -> [u8; 32]
+    ensures { result ≡ hash (left.now ++ right.now) }
+{
+    hash_pieces(&[left, right])
+}
+
+/// The hash of three pieces, one after another.
+pub fn hash_three(first: &[u8], second: &[u8], third: &[u8]) -> [u8; 32]
+    ensures { result ≡ hash (first.now ++ (second.now ++ third.now)) }
+{
+    hash_pieces(&[first, second, third])
 }
 
 /// A collision of the hash is a collision of its compression function.

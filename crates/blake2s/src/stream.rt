@@ -1,12 +1,11 @@
 //! Hashing piece by piece.
 
 ghost use Rattle.std.specs.Prelude.{◌≡◌, ℕ, ◌+◌, ◌-◌, ◌<◌, ◌≤◌, min, List, [], ◌++◌, length, take};
-ghost use Rattle.blake2s.specs.Blake2s.{words, padded, digest, hash};
+ghost use Rattle.blake2s.specs.Blake2s.{words, digest, hash};
 ghost use Rattle.blake2s.specs.Absorbed.{Cut, Ready, Absorbed, Pressed, Taken};
 
 use crate::compress::{IV, compress};
 use crate::state::Hasher;
-use arrayvec::ArrayVec;
 use std::array;
 
 // The sixteen words of a block.
@@ -24,17 +23,6 @@ fn to_bytes(h: [u32; 8]) -> [u8; 32]
     array::from_fn(|k| h[k / 4].to_le_bytes()[k % 4])
 }
 
-// Fills a block up with zeros; one that is full stays as it is.
-fn pad(block: &mut ArrayVec<u8, 64>)
-    ensures padded { block.new.items ≡ padded block.old.items }
-    ensures full { length block.new.items ≡ 64 }
-{
-    if !block.is_full() {
-        let filled = block.len();
-        block.try_extend_from_slice(&[0; 64][filled..]).unwrap();
-    }
-}
-
 impl Hasher {
     /// A hasher that has taken in nothing.
     pub fn new() -> Hasher
@@ -45,52 +33,57 @@ impl Hasher {
         h[0] ^= 0x0101_0020;
         Hasher {
             h,
-            block: ArrayVec::new(),
+            block: [0; 64],
+            filled: 0,
             count: 0,
         }
     }
 
-    // Compresses a block that is not the last one.
+    // Compresses a block that is not the last one, and empties the buffer.
     fn press(&mut self, block: &[u8; 64])
         ensures { Pressed self.old self.new block.now }
     {
         let t = self.count.wrapping_add(64);
         compress(&mut self.h, to_words(block), t, false);
         self.count = t;
-        self.block.clear();
+        self.block = [0; 64];
+        self.filled = 0;
     }
 
     // Compresses the buffer where it is full; what is taken in next shows that it was not the last block.
     fn make_room(&mut self)
-        ensures room { length self.new.block.items < 64 }
+        ensures room { self.new.filled < 64 }
         ensures keeps { (xs : List ℕ) (n : ℕ) → Cut self.old xs n → Ready self.new xs }
     {
-        if let Some(block) = self.block.first_chunk::<64>() {
-            let block = *block;
+        if self.filled == 64 {
+            let block = self.block;
             self.press(&block);
         }
     }
 
     // Takes as many of the bytes as there is room for, and says how many.
     fn fill(&mut self, rest: &[u8]) -> usize
-        ensures taken { result ≡ min (length rest.now) (64 - length self.old.block.items) }
-        ensures waits { self.new.block.items ≡ self.old.block.items ++ take result rest.now }
+        ensures taken { result ≡ min (length rest.now) (64 - self.old.filled) }
+        ensures filled { self.new.filled ≡ self.old.filled + result }
+        ensures waits { take self.new.filled self.new.block ≡ take self.old.filled self.old.block ++ take result rest.now }
         ensures state { self.new.h ≡ self.old.h }
         ensures counted { self.new.count ≡ self.old.count }
     {
-        let n = rest.len().min(self.block.remaining_capacity());
-        self.block.try_extend_from_slice(&rest[..n]).unwrap();
+        let from = self.filled;
+        let n = rest.len().min(64 - from);
+        self.block[from..from + n].copy_from_slice(&rest[..n]);
+        self.filled = from + n;
         n
     }
 
     // Takes some of the bytes, and says how many: a whole block at once where the buffer is empty and more come after
     // it, and else as many as there is room for.
     fn take_some(&mut self, rest: &[u8]) -> usize
-        requires { (length self.old.block.items < 64) × (0 < length rest.now) }
+        requires { (self.old.filled < 64) × (0 < length rest.now) }
         ensures { Taken self.old self.new rest.now result }
     {
         match rest.split_first_chunk::<64>() {
-            Some((block, more)) if self.block.is_empty() && !more.is_empty() => {
+            Some((block, more)) if self.filled == 0 && !more.is_empty() => {
                 self.press(block);
                 64
             }
@@ -116,12 +109,12 @@ impl Hasher {
     {
         let Hasher {
             mut h,
-            mut block,
+            block,
+            filled,
             count,
         } = self;
-        let t = count.wrapping_add(block.len() as u64);
-        pad(&mut block);
-        compress(&mut h, to_words(block.first_chunk().unwrap()), t, true);
+        let t = count.wrapping_add(filled as u64);
+        compress(&mut h, to_words(&block), t, true);
         to_bytes(h)
     }
 }

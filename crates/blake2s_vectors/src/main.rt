@@ -31,23 +31,36 @@ impl fmt::Display for Digest {
 }
 
 // The value of a hexadecimal digit.
-fn digit(c: char) -> Option<u8> {
-    u8::try_from(c.to_digit(16)?).ok()
+//
+// Kept: by the byte: on a long line `chars` with `to_digit` took a fifth longer than this, reading and hashing together.
+fn digit(b: u8) -> Option<u8> {
+    match b {
+        b'0'..=b'9' => Some(b - b'0'),
+        b'a'..=b'f' => Some(b - b'a' + 10),
+        b'A'..=b'F' => Some(b - b'A' + 10),
+        _ => None,
+    }
 }
 
 // The bytes that pairs of hexadecimal digits spell. Other characters are passed over, and so is a digit that is left.
 fn bytes(heap: Global, text: &str) -> Result<Vec<u8>, AllocError> {
-    let digits: Vec<u8> = text.chars().filter_map(digit).collect(heap)?;
-    let (pairs, _) = digits.as_chunks::<2>();
-    pairs
-        .iter()
-        .map(|[high, low]| (high << 4) | low)
-        .collect(heap)
+    let mut bytes = Vec::new(heap);
+    let mut before = None;
+    for digit in text.bytes().filter_map(digit) {
+        match before {
+            None => before = Some(digit),
+            Some(high) => {
+                bytes.push((high << 4) | digit)?;
+                before = None;
+            }
+        }
+    }
+    Ok(bytes)
 }
 
 // The word that hexadecimal digits spell, modulo 2 ^ 32.
 fn word(text: &str) -> u32 {
-    text.chars()
+    text.bytes()
         .filter_map(digit)
         .fold(0, |word, digit| (word << 4) | u32::from(digit))
 }

@@ -134,6 +134,10 @@ impl WhirConfig {
         ensures log { result.log ≡ log_positions_of (numbers_of self.now.numbers) self.now.numbers.folding_schedule.items (min phase (length self.now.numbers.round_parameters.items)) }
         ensures queries { result.queries ≡ queries (numbers_of self.now.numbers) (min phase (length self.now.numbers.round_parameters.items)) }
     {
-        self.phase(phase).positions().unwrap()
+        let phase = self.phase(phase);
+        Positions {
+            log: phase.variables + phase.rate - phase.factor,
+            queries: phase.queries,
+        }
     }
 }

@@ -26,7 +26,7 @@ largest_from (k ∷ ks) most m h =
     let first = h 0 (omega arith) in
     largest_from ks (max most k) (omega (arith, first)) (λ i below. h (suc i) (omega arith))
 
-largest_small : (N : Numbers) → flawless N ≡ true → fold max 0 N.stored ≤ 10
+pub largest_small : (N : Numbers) → flawless N ≡ true → fold max 0 N.stored ≤ 10
 largest_small N e = largest_from N.stored 0 (omega arith) (λ i h. ((in_order N e).factors i h).1)
 
 -- numbers that are at most a bound have a sum that is at most so many times the bound
@@ -49,7 +49,7 @@ samples_few r e =
     leb-true _ _ (and_parts (leb r.ood_samples 16) _ q).0
 
 -- the samples of all rounds are few
-samples_small : (N : Numbers) → within_limits N ≡ true → length N.rounds ≤ 65535 → samples_of N.rounds ≤ 65535 * 16
+pub samples_small : (N : Numbers) → within_limits N ≡ true → length N.rounds ≤ 65535 → samples_of N.rounds ≤ 65535 * 16
 unfolding within_limits
 samples_small N w few =
     let p = (and_parts (sizes_within N) _ w).1 in
@@ -69,7 +69,7 @@ rows_few N ks (suc k) h =
     let same = ap (λ n. rows_in (map (phase_of N ks) (range_with_len 0 n))) (add-one k) in
     omega (arith, before, last, m, same)
 
-rows_small : (N : Numbers) → flawless N ≡ true → length N.stored ≤ 65536 → rows_in (phases_of N) ≤ 65536 * 1024
+pub rows_small : (N : Numbers) → flawless N ≡ true → length N.stored ≤ 65536 → rows_in (phases_of N) ≤ 65536 * 1024
 rows_small N e few =
     let m = rows_few N N.stored (length N.stored) (λ i h. ((in_order N e).rows_some i h).1) in omega (arith, m)
 

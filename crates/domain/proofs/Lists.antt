@@ -27,6 +27,12 @@ module _ {A : Type 0} where
   places_apart (x ∷ l) d u (suc i) zero hi hj e = absurd (All-get_or (λ y. x ≡ y → ⊥) l i d (omega arith) u.0 (sym e))
   places_apart (x ∷ l) d u (suc i) (suc j) hi hj e = ap suc (places_apart l d u.1 i j (omega arith) (omega arith) e)
 
+  -- without its first elements a list of distinct elements is one
+  pub distinct_drop : (n : ℕ) (l : List A) → Distinct l → Distinct (drop n l)
+  distinct_drop zero l u = u
+  distinct_drop (suc n) [] u = u
+  distinct_drop (suc n) (x ∷ l) u = distinct_drop n l u.1
+
   -- `==` decides equality
   module _ (eq : A → A → Bool) (same : (x y : A) → (eq x y ≡ true) ↔ (x ≡ y)) where
     -- x is none of the elements, or one of them

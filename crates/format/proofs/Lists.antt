@@ -1,10 +1,10 @@
 -- Items read one after another.
-use Rattle.std.proofs.Common.{◌≡◌, ℕ, suc, ◌+◌, ◌-◌, ◌<◌, ◌≤◌, List, [], ◌∷◌, ◌++◌, Err, Result, sym, refl, ap, ◌∙◌, append_assoc, add-one, arith}
+use Rattle.std.proofs.Common.{◌≡◌, ℕ, zero, suc, ◌+◌, ◌-◌, ◌<◌, ◌≤◌, List, [], ◌∷◌, ◌++◌, length, Err, Result, sym, refl, ap, ◌∙◌, append_assoc, add-one, arith}
 use Rattle.std.specs.Prelude.{IsErrAnd}
 use Rattle.std.proofs.lemmas.List.{append-nil}
 use Rattle.std.proofs.lemmas.Result.{err_from_is_err_and}
 use Rattle.format.specs.declared.errors.Expected.{Expected}
-use Rattle.format.specs.Reading.{Read, found, stuck, then, each, Stands, Gives}
+use Rattle.format.specs.Reading.{Read, found, stuck, then, each, next_number, numbers_listed, Stands, Gives}
 use Rattle.format.specs.declared.errors.Fault.{Fault}
 use Rattle.format.specs.declared.errors.Fault.TheVariants.{Syntax, OutOfMemory}
 use Rattle.format.proofs.Chains.{then_found, then_stuck}
@@ -92,3 +92,28 @@ pub leads_breaks : {W X Z : Type 0} {first : W → X} {meaning : Z → List X} {
     → IsErrAnd r (λ e. e ≡ d) → Gives meaning (each item 0 count bs) r rest
 leads_breaks {first = f} {meaning = m} {d = d} {rest = rest} {r = r} item count bs i done now inv h g e =
     let b = err_from_is_err_and r e in rw (b.1, b.2) (record { stands = broken f m item count bs i done now d rest inv h g.stands })
+
+-- as many items are found as were to be
+found_after : {X : Type 0} (x : X) (k : ℕ) (p : Read (List X)) (xs : List X) (rest : List ℕ) → ((ys : List X) (end : List ℕ) → p ≡ found ys end → length ys ≡ k)
+    → then p (λ zs end. found (x ∷ zs) end) ≡ found xs rest → length xs ≡ suc k
+unfolding then
+found_after x k (found ys end) xs rest h e =
+    let same : x ∷ ys ≡ xs = cc in ap length (sym same) ∙ ap suc (h ys end refl)
+found_after x k (stuck f end) xs rest h e = let z : ◌≡◌ {A = ℕ} 0 1 = cc in absurd (omega arith)
+
+found_one : {X : Type 0} (k : ℕ) (p : Read X) (next : List ℕ → Read (List X)) (xs : List X) (rest : List ℕ)
+    → ((b : List ℕ) (ys : List X) (end : List ℕ) → next b ≡ found ys end → length ys ≡ k)
+    → then p (λ x b. then (next b) (λ zs end. found (x ∷ zs) end)) ≡ found xs rest → length xs ≡ suc k
+unfolding then
+found_one k (found x b) next xs rest h e = found_after x k (next b) xs rest (h b) e
+found_one k (stuck f end) next xs rest h e = let z : ◌≡◌ {A = ℕ} 0 1 = cc in absurd (omega arith)
+
+pub each_length : {X : Type 0} (item : ℕ → List ℕ → Read X) (i k : ℕ) (bs : List ℕ) (xs : List X) (rest : List ℕ) → each item i k bs ≡ found xs rest → length xs ≡ k
+each_length item i zero bs xs rest e = let same : [] ≡ xs = cc (each_zero item i bs) in ap length (sym same)
+each_length item i (suc k) bs xs rest e =
+    found_one k (item i bs) (λ b. each item (suc i) k b) xs rest (λ b ys end. each_length item (suc i) k b ys end) (sym (each_suc item i k bs) ∙ e)
+
+pub within_nine : (k : ℕ) {xs ys rest : List ℕ} (bs : List ℕ) → numbers_listed 9 bs ≡ found xs rest → ys ≡ xs → k < 9 → k < length ys
+unfolding numbers_listed
+within_nine k {xs = xs} {rest = rest} bs e v h =
+    let n = each_length (λ _. next_number) 0 9 bs xs rest e in let m = ap length v in omega (arith, n, m)

@@ -7,9 +7,9 @@ use crate::keys::Key;
 use std::alloc::Global;
 
 #[derive(Drop)]
-pub struct Cursor<'a> {
-    // What the lists that are read are made with.
-    pub heap: Global,
+pub struct Cursor<'a, H = Global> {
+    // What the lists that are read are made with. Where none is read, any value serves, as `()`.
+    pub heap: H,
 
     // The bytes left.
     pub rest: &'a [u8],
@@ -34,7 +34,7 @@ fn value_of(digits: &[u8]) -> u128
     })
 }
 
-impl<'a> Cursor<'a> {
+impl<'a, H> Cursor<'a, H> {
     // Whether this word stands here; if it does, the cursor goes past it.
     pub fn takes(&mut self, word: &[u8]) -> bool
         ensures test { result ≡ begins word.now self.old.rest.now }

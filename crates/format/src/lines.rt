@@ -12,9 +12,10 @@ use crate::errors::{Expected, Fault};
 use crate::keys::Key;
 use configuration::whir_parameters::{RoundConfig, TerminalBudget};
 use parameters::folding::FoldingFactor;
+use std::alloc::Global;
 
-// What stands behind the key word of a line.
-pub trait Part: Drop + Sized {
+// What stands behind the key word of a line, read by a cursor that makes its lists with an `H`.
+pub trait Part<H>: Drop + Sized {
     // What a value is to the definitions.
     ghost Shown: { Type 0 };
 
@@ -24,46 +25,46 @@ pub trait Part: Drop + Sized {
     ghost reading: { List ℕ → Read Shown };
 
     // The value at the front of a text.
-    fn read(cursor: &mut Cursor) -> Result<Self, Fault>
+    fn read(cursor: &mut Cursor<'_, H>) -> Result<Self, Fault>
         ensures { Gives shown (reading cursor.old.rest.now) result cursor.new.rest.now };
 }
 
-// What stands one after another in a list.
-pub trait Item: Drop + Sized {
+// What stands one after another in a list, read by a cursor that makes its lists with an `H`.
+pub trait Item<H>: Drop + Sized {
     // The definition of how the item of an index is read.
     ghost item: { ℕ → List ℕ → Read Self };
 
     // The item of this index, at the front of a text.
-    fn read_at(cursor: &mut Cursor, index: usize) -> Result<Self, Fault>
+    fn read_at(cursor: &mut Cursor<'_, H>, index: usize) -> Result<Self, Fault>
         ensures { Gives plain (item index cursor.old.rest.now) result cursor.new.rest.now };
 }
 
 // A number, behind a blank.
-impl Item for usize {
+impl<H> Item<H> for usize {
     ghost item = { λ _. next_number };
 
-    fn read_at(cursor: &mut Cursor, _index: usize) -> Result<usize, Fault> {
+    fn read_at(cursor: &mut Cursor<'_, H>, _index: usize) -> Result<usize, Fault> {
         cursor.next_number()
     }
 }
 
 // A byte, as a number behind a blank.
-impl Item for u8 {
+impl<H> Item<H> for u8 {
     ghost item = { λ _. byte_item };
 
     #[tactic(auto, unfolding(crate::specs::Lines::byte_item, crate::specs::Reading::then))]
-    fn read_at(cursor: &mut Cursor, _index: usize) -> Result<u8, Fault> {
+    fn read_at(cursor: &mut Cursor<'_, H>, _index: usize) -> Result<u8, Fault> {
         let number = cursor.next_number()?;
         u8::try_from(number).map_err(|_| Fault::Syntax(Expected::Byte))
     }
 }
 
 // The line of a round.
-impl Item for RoundConfig {
+impl<H> Item<H> for RoundConfig {
     ghost item = { round };
 
     #[tactic(auto, unfolding(crate::specs::Lines::round, crate::specs::Reading::numbers_listed, crate::specs::Reading::each, crate::specs::Reading::then))]
-    fn read_at(cursor: &mut Cursor, index: usize) -> Result<RoundConfig, Fault> {
+    fn read_at(cursor: &mut Cursor<'_, H>, index: usize) -> Result<RoundConfig, Fault> {
         cursor.key(Key::Round)?;
         cursor.index(index)?;
         let round = RoundConfig {
@@ -83,20 +84,20 @@ impl Item for RoundConfig {
 }
 
 // A number, behind a blank.
-impl Part for usize {
+impl<H> Part<H> for usize {
     ghost Shown = { ℕ };
 
     ghost shown = { plain };
 
     ghost reading = { next_number };
 
-    fn read(cursor: &mut Cursor) -> Result<usize, Fault> {
+    fn read(cursor: &mut Cursor<'_, H>) -> Result<usize, Fault> {
         cursor.next_number()
     }
 }
 
 // One of the two truth values.
-impl Part for bool {
+impl<H> Part<H> for bool {
     ghost Shown = { Bool };
 
     ghost shown = { plain };
@@ -104,7 +105,7 @@ impl Part for bool {
     ghost reading = { flag };
 
     #[tactic(auto, unfolding(crate::specs::Lines::flag, crate::specs::Reading::then))]
-    fn read(cursor: &mut Cursor) -> Result<bool, Fault> {
+    fn read(cursor: &mut Cursor<'_, H>) -> Result<bool, Fault> {
         match cursor.next_number()? {
             0 => Ok(false),
             1 => Ok(true),
@@ -114,7 +115,7 @@ impl Part for bool {
 }
 
 // A list: its length, then its items.
-impl<T: Item> Part for Vec<T> {
+impl<T: Item<Global>> Part<Global> for Vec<T> {
     ghost Shown = { List T };
 
     ghost shown = { vec_items };
@@ -129,7 +130,7 @@ impl<T: Item> Part for Vec<T> {
 }
 
 // A folding strategy: its name, behind a blank, and its factors.
-impl Part for FoldingFactor {
+impl Part<Global> for FoldingFactor {
     ghost Shown = { Strategy };
 
     ghost shown = { strategy_of };
@@ -156,7 +157,7 @@ impl Part for FoldingFactor {
 }
 
 // The queries and the difficulty of the final phase.
-impl Part for TerminalBudget {
+impl<H> Part<H> for TerminalBudget {
     ghost Shown = { TerminalBudget };
 
     ghost shown = { plain };
@@ -164,7 +165,7 @@ impl Part for TerminalBudget {
     ghost reading = { terminal_of };
 
     #[tactic(auto, unfolding(crate::specs::Lines::terminal_of, crate::specs::Reading::then))]
-    fn read(cursor: &mut Cursor) -> Result<TerminalBudget, Fault> {
+    fn read(cursor: &mut Cursor<'_, H>) -> Result<TerminalBudget, Fault> {
         let num_queries = cursor.next_number()?;
         let pow_bits = cursor.next_number()?;
         Ok(TerminalBudget {
@@ -174,7 +175,7 @@ impl Part for TerminalBudget {
     }
 }
 
-impl<'a> Cursor<'a> {
+impl<'a, H> Cursor<'a, H> {
     // The index of a line in its group.
     #[tactic(auto, unfolding(crate::specs::Lines::line_index, crate::specs::Reading::then))]
     pub fn index(&mut self, index: usize) -> Result<(), Fault>
@@ -187,9 +188,23 @@ impl<'a> Cursor<'a> {
         Ok(())
     }
 
+    // A line: its key word, what stands behind it, and the line feed.
+    #[tactic(auto, unfolding(crate::specs::Lines::line, crate::specs::Reading::then))]
+    pub fn line<P: Part<H>>(&mut self, key: Key) -> Result<P, Fault>
+        ensures { Gives P.shown (line key P.reading self.old.rest.now) result self.new.rest.now }
+    {
+        self.key(key)?;
+        let value = P::read(self)?;
+        self.end_of_line()?;
+        Ok(value)
+    }
+}
+
+// What makes lists, and so needs an allocator.
+impl<'a> Cursor<'a> {
     // As many items, one after another.
     #[tactic(auto, using(crate::proofs::Lists::leads_start, crate::proofs::Lists::leads_push, crate::proofs::Lists::leads_all))]
-    pub fn items<T: Item>(&mut self, count: usize) -> Result<Vec<T>, Fault>
+    pub fn items<T: Item<Global>>(&mut self, count: usize) -> Result<Vec<T>, Fault>
         ensures { Gives vec_items (each T.item 0 count self.old.rest.now) result self.new.rest.now }
     {
         let mut items = Vec::new(self.heap);
@@ -209,16 +224,5 @@ impl<'a> Cursor<'a> {
     {
         let count = self.line(Key::Rounds)?;
         self.items(count)
-    }
-
-    // A line: its key word, what stands behind it, and the line feed.
-    #[tactic(auto, unfolding(crate::specs::Lines::line, crate::specs::Reading::then))]
-    pub fn line<P: Part>(&mut self, key: Key) -> Result<P, Fault>
-        ensures { Gives P.shown (line key P.reading self.old.rest.now) result self.new.rest.now }
-    {
-        self.key(key)?;
-        let value = P::read(self)?;
-        self.end_of_line()?;
-        Ok(value)
     }
 }

@@ -110,3 +110,13 @@ module _ {E : Type 0} (F : Ops E) (L : IsRing F) where
       ≡ F.add (F.mul m (F.add (F.mul w u) s)) (F.mul r (F.add (F.mul w v) t))
   mix_step m r w u v s t =
       ring L (m ∷ r ∷ w ∷ u ∷ v ∷ s ∷ t ∷ []) (v2 ⊗ (v0 ⊗ v3 ⊕ v1 ⊗ v4) ⊕ (v0 ⊗ v5 ⊕ v1 ⊗ v6)) (v0 ⊗ (v2 ⊗ v3 ⊕ v5) ⊕ v1 ⊗ (v2 ⊗ v4 ⊕ v6)) tt
+
+  -- division by X − r: its start, and one more coefficient, at y + r
+  pub divide_none : (r y : E) → F.mul (F.add y r) F.zero ≡ F.add (F.mul r F.zero) (F.mul y F.zero)
+  divide_none r y = ring L (r ∷ y ∷ []) ((v1 ⊕ v0) ⊗ O) (v0 ⊗ O ⊕ v1 ⊗ O) tt
+
+  pub divide_more : (d r y m s t : E) → F.mul (F.add y r) t ≡ F.add (F.mul r m) (F.mul y s)
+      → F.mul (F.add y r) (F.add d (F.mul (F.add y r) t)) ≡ F.add (F.mul r (F.add d (F.mul r m))) (F.mul y (F.add (F.add d (F.mul r m)) (F.mul (F.add y r) s)))
+  divide_more d r y m s t h =
+      ring_by L (d ∷ r ∷ y ∷ m ∷ s ∷ t ∷ []) ((v2 ⊕ v1) ⊗ (v0 ⊕ (v2 ⊕ v1) ⊗ v5)) (v1 ⊗ (v0 ⊕ v1 ⊗ v3) ⊕ v2 ⊗ ((v0 ⊕ v1 ⊗ v3) ⊕ (v2 ⊕ v1) ⊗ v4)) (v2 ⊕ v1) ((v2 ⊕ v1) ⊗ v5)
+      (v1 ⊗ v3 ⊕ v2 ⊗ v4) h tt

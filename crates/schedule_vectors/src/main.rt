@@ -49,8 +49,8 @@ fn run(rt: &HostRuntime) -> anyhow::Result<()> {
 fn agrees(heap: Global, line: &str) -> Result<bool, LineError> {
     let (strategy, rest) = line.split_once(" n ").ok_or(LineError::Unreadable)?;
     let (n, expected) = rest.split_once(' ').ok_or(LineError::Unreadable)?;
-    let strategy = strategy_of(heap, strategy)?;
     let n = number::parse(n).ok_or(LineError::Unreadable)?;
+    let strategy = strategy_of(heap, strategy)?;
     let answer = answer_of(heap, &strategy, n)?;
     Ok(answer.as_str() == expected)
 }

@@ -1,10 +1,10 @@
 -- Positions drawn one after another.
-use Rattle.std.proofs.Common.{◌≡◌, ◌≢◌, ℕ, zero, suc, ◌+◌, ◌-◌, ◌*◌, ◌%◌, ◌^◌, ◌<◌, ◌≤◌, Bool, cond, eqb, List, [], ◌∷◌, ◌++◌, length, take, set, Ok, Some, Option, unwrap_or, sym, refl, ap, ◌∙◌, subst, arith}
+use Rattle.std.proofs.Common.{◌≡◌, ◌≢◌, ℕ, zero, suc, ◌+◌, ◌-◌, ◌*◌, ◌%◌, ◌^◌, ◌<◌, ◌≤◌, Bool, cond, eqb, List, [], ◌∷◌, ◌++◌, length, take, set, Ok, Err, Result, Some, Option, unwrap_or, sym, refl, ap, ◌∙◌, subst, arith}
 use Rattle.std.proofs.lemmas.List.{take_more_set, nil_from_length}
 use Rattle.std.proofs.lemmas.Nat.{one_shl}
 use Rattle.std.proofs.lemmas.Bool.{cond-false, ne_eqb}
-use Rattle.sponge.specs.Play.{Rules, Play, done, ◌>>=◌, each, counted, read}
-use Rattle.sponge.specs.Plays.{Plays}
+use Rattle.sponge.specs.Play.{Rules, Play, done, ◌>>=◌, each, counted, read, run, goes_on}
+use Rattle.sponge.specs.Plays.{Plays, Leads}
 use Rattle.sponge.specs.Drawing.{draw_bits}
 use Rattle.sponge.proofs.Leads.{leads_none, leads_more, leads_done}
 use Rattle.sponge.proofs.Passing.{passes_run, never, plays_read}
@@ -97,3 +97,11 @@ positions_some m s t stratified kind w (suc d) n out h e pn f =
 -- where some are drawn, there are some
 pub some_there : (o : Option ℕ) (d : ℕ) → o ≡ Some d → o ≢ Some 0 → unwrap_or o 0 ≢ 0
 some_there o d is none e = none (is ∙ ap Some (sym (ap (λ x. unwrap_or x 0) is) ∙ e))
+
+-- a play and then its answer is the play
+pub answered : {A : Type 0} (m : Rules) (s : List ℕ) (p : Play ⊥ A) → Leads m s p s (p >>= λ a. done a)
+answered {A} m s p = record { leads = sym (on (run m s p).answer (run m s p).list) }
+  where
+    on : (o : Result A ⊥) (u : List ℕ) → goes_on o u (λ a v. run m v (done a)) ≡ record { answer = o; list = u }
+    on (Ok a) u = refl
+    on (Err r) u = refl

@@ -8,7 +8,8 @@ use Rattle.transcript.specs.Steps.{Step, step_of, step_bytes, drawn_step, sent_s
 use Rattle.transcript.specs.declared.interaction.Label.{Label}
 use Rattle.transcript.specs.Depths.{depths, Falling}
 use Rattle.transcript.specs.declared.interaction.Label.TheVariants.{OodPoint, OodAnswer}
-use Rattle.arrayvec.specs.ArrayVec.{ArrayVec}
+use Rattle.transcript.specs.Written.{written}
+use Rattle.transcript.specs.declared.piece.Piece.{Piece}
 use Rattle.transcript.specs.Bytes.{eight}
 use Rattle.std.specs.List.{flat_map}
 use Rattle.transcript.specs.Shape.{Shape}
@@ -74,25 +75,25 @@ draws_added a b stratified w d o ts l x flat e some h r =
     ∙ cond-false (eqb d 0) [] (indices_step w d l ∷ []) (ne_eqb d 0 there)))
 
 -- one instance more
-pub binds_one : (before after : List (ArrayVec ℕ)) (p : ArrayVec ℕ) (bs : List ℕ) → after ≡ before ++ (p ∷ []) → p.items ≡ instance_bytes bs → Binds before after (bs ∷ [])
+pub binds_one : (before after : List Piece) (p : Piece) (bs : List ℕ) → after ≡ before ++ (p ∷ []) → written p ≡ instance_bytes bs → Binds before after (bs ∷ [])
 binds_one before after p bs h r = mapped_one piece_bytes before after (map piece_bytes before) p (instance_bytes bs) refl h r
 
 -- some instances, and then some more
-pub binds_on : (a b c : List (ArrayVec ℕ)) (xs ys : List (List ℕ)) → Binds a b xs → Binds b c ys → Binds a c (xs ++ ys)
+pub binds_on : (a b c : List Piece) (xs ys : List (List ℕ)) → Binds a b xs → Binds b c ys → Binds a c (xs ++ ys)
 binds_on a b c xs ys e h =
     h ∙ ap (λ ss. ss ++ map instance_bytes ys) e ∙ append_assoc (map piece_bytes a) (map instance_bytes xs) (map instance_bytes ys)
     ∙ ap (λ ss. map piece_bytes a ++ ss) (sym (map-append instance_bytes xs ys))
 
 -- one number more
-pub number_bound : (a b c : List (ArrayVec ℕ)) (ns : List ℕ) (i : ℕ) (bs : List ℕ) → Binds a b (map eight (take i ns)) → i < length ns → bs ≡ eight (get_or ns i 0) → Binds b c (bs ∷ [])
+pub number_bound : (a b c : List Piece) (ns : List ℕ) (i : ℕ) (bs : List ℕ) → Binds a b (map eight (take i ns)) → i < length ns → bs ≡ eight (get_or ns i 0) → Binds b c (bs ∷ [])
     → Binds a c (map eight (take (i + 1) ns))
 number_bound a b c ns i bs e h r k =
     binds_on a b c (map eight (take i ns)) (eight (get_or ns i 0) ∷ []) e (subst (λ x. Binds b c (x ∷ [])) r k)
     ∙ ap (λ ss. map piece_bytes a ++ map instance_bytes ss) (sym (map_more eight ns i 0 h))
 
 -- one step more
-pub step_bound : (before after : List (ArrayVec ℕ)) (p : ArrayVec ℕ) (ss : List Interaction) (i : ℕ) (d : Interaction) → i < length ss
-    → map piece_bytes before ≡ pieces (map step_of (take i ss)) [] → after ≡ before ++ (p ∷ []) → p.items ≡ step_bytes (step_of (get_or ss i d))
+pub step_bound : (before after : List Piece) (p : Piece) (ss : List Interaction) (i : ℕ) (d : Interaction) → i < length ss
+    → map piece_bytes before ≡ pieces (map step_of (take i ss)) [] → after ≡ before ++ (p ∷ []) → written p ≡ step_bytes (step_of (get_or ss i d))
     → map piece_bytes after ≡ pieces (map step_of (take (i + 1) ss)) []
 unfolding pieces
 step_bound before after p ss i d h e k r =
@@ -104,7 +105,7 @@ step_bound before after p ss i d h e k r =
     ∙ ap (λ ys. pieces ys []) (sym (map_more step_of ss i d h))
 
 -- before the first step there are the version and the name
-pub begun : (start versioned named : List (ArrayVec ℕ)) (v n : ArrayVec ℕ) → start ≡ [] → versioned ≡ start ++ (v ∷ []) → named ≡ versioned ++ (n ∷ []) → v.items ≡ 3 ∷ [] → n.items ≡ codes "p3-whir"
+pub begun : (start versioned named : List Piece) (v n : Piece) → start ≡ [] → versioned ≡ start ++ (v ∷ []) → named ≡ versioned ++ (n ∷ []) → written v ≡ 3 ∷ [] → written n ≡ codes "p3-whir"
     → map piece_bytes named ≡ pieces [] []
 unfolding pieces
 begun start versioned named v n e h k rv rn =
@@ -112,19 +113,19 @@ begun start versioned named v n e h k rv rn =
     (mapped_one piece_bytes start versioned [] v (3 ∷ []) (ap (map piece_bytes) e) h rv) k rn
 
 -- instances behind the steps
-instances_behind : (ps : List Step) (a b : List (ArrayVec ℕ)) (labels : List (List ℕ)) → map piece_bytes a ≡ pieces ps [] → Binds a b labels → map piece_bytes b ≡ pieces ps labels
+instances_behind : (ps : List Step) (a b : List Piece) (labels : List (List ℕ)) → map piece_bytes a ≡ pieces ps [] → Binds a b labels → map piece_bytes b ≡ pieces ps labels
 unfolding pieces
 instances_behind ps a b labels e h =
     h ∙ ap (λ ss. ss ++ map instance_bytes labels) e
     ∙ ap (λ ss. (3 ∷ []) ∷ codes "p3-whir" ∷ (ss ++ map instance_bytes labels)) (append-nil (map step_bytes ps))
 
 -- numbers after numbers
-numbers_on : (a b c : List (ArrayVec ℕ)) (ms ns : List ℕ) → Binds a b (map eight ms) → Binds b c (map eight ns) → Binds a c (map eight (ms ++ ns))
+numbers_on : (a b c : List Piece) (ms ns : List ℕ) → Binds a b (map eight ms) → Binds b c (map eight ns) → Binds a c (map eight (ms ++ ns))
 numbers_on a b c ms ns e h =
     binds_on a b c (map eight ms) (map eight ns) e h ∙ ap (λ ss. map piece_bytes a ++ map instance_bytes ss) (sym (map-append eight ms ns))
 
 -- the whole separator, part by part
-pub separated : (s : Shape) (ps : List Step) (a b c d e f g h : List (ArrayVec ℕ)) → map piece_bytes a ≡ pieces ps [] → Binds a b (numbers (first_numbers s))
+pub separated : (s : Shape) (ps : List Step) (a b c d e f g h : List Piece) → map piece_bytes a ≡ pieces ps [] → Binds a b (numbers (first_numbers s))
     → Binds b c (domain_instances s.id s.stratified) → Binds c d (numbers (strategy_numbers s.strategy)) → Binds d e (numbers (sumcheck_numbers s.initial))
     → Binds e f (numbers (sumcheck_numbers s.final)) → Binds f g (numbers (length s.rounds ∷ [])) → Binds g h (numbers (flat_map round_numbers s.rounds))
     → map piece_bytes h ≡ pieces ps (instances s)
@@ -141,8 +142,8 @@ separated s ps a b c d e f g h start first named strategy initial final count ro
     (binds_on b c h (domain_instances s.id s.stratified) (numbers (last_numbers s)) named last))
 
 -- one piece more
-pub piece_taken : (m : Rules) (s t u : List ℕ) (ps : List (ArrayVec ℕ)) (i : ℕ) (d : ArrayVec ℕ) (bs : List ℕ) → i < length ps → t ≡ taken m piece_bytes s (take i ps)
-    → bs ≡ (get_or ps i d).items → u ≡ m.after_observe t bs → u ≡ taken m piece_bytes s (take (i + 1) ps)
+pub piece_taken : (m : Rules) (s t u : List ℕ) (ps : List Piece) (i : ℕ) (d : Piece) (bs : List ℕ) → i < length ps → t ≡ taken m piece_bytes s (take i ps)
+    → bs ≡ written (get_or ps i d) → u ≡ m.after_observe t bs → u ≡ taken m piece_bytes s (take (i + 1) ps)
 piece_taken m s t u ps i d bs h inv r o =
     taken_as m piece_bytes s u (take i ps ++ (get_or ps i d ∷ [])) (take (i + 1) ps)
     (taken_on m piece_bytes s t u (take i ps) (get_or ps i d ∷ []) inv (taken_one m piece_bytes t u (get_or ps i d) bs o r)) (sym (take_more ps i d h))

@@ -1,6 +1,7 @@
 pub mod Depths
 pub mod Bytes
 pub mod Steps
+pub mod Written
 pub mod Shape
 pub mod Pattern
 pub mod Instances

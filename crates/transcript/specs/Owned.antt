@@ -1,12 +1,13 @@
 -- The owned lists of a shape, a pattern and a separator, as the numbers and lists that the definitions speak of.
 use Rattle.std.specs.Prelude.{◌≡◌, ℕ, List, ◌++◌, map, vec_items, unwrap_or}
-use Rattle.arrayvec.specs.ArrayVec.{ArrayVec}
 use Rattle.transcript.specs.Instances.{instance_bytes}
 use Rattle.parameters.specs.Replies.{strategy_of}
 use Rattle.configuration.specs.Views.{kind_number}
 use Rattle.transcript.specs.Steps.{Step, step_of}
 use Rattle.transcript.specs.Shape.{Sumcheck, RoundShape, Shape}
+use Rattle.transcript.specs.Written.{written}
 use Rattle.transcript.specs.declared.interaction.Interaction.{Interaction}
+use Rattle.transcript.specs.declared.piece.Piece.{Piece}
 use Rattle.transcript.specs.declared.shape.SumcheckShape.{SumcheckShape}
 use Rattle.transcript.specs.declared.shape.WhirRoundShape.{WhirRoundShape}
 use Rattle.transcript.specs.declared.shape.WhirShape.{WhirShape}
@@ -55,9 +56,9 @@ abbrev pub Adds : List Interaction → List Interaction → List Step → Type 0
 Adds before after steps = map step_of after ≡ map step_of before ++ steps
 
 -- A piece as the bytes that are observed.
-abbrev pub piece_bytes : ArrayVec ℕ → List ℕ
-piece_bytes p = p.items
+abbrev pub piece_bytes : Piece → List ℕ
+piece_bytes p = written p
 
 -- Instances were added, a piece each, behind the pieces that were there.
-abbrev pub Binds : List (ArrayVec ℕ) → List (ArrayVec ℕ) → List (List ℕ) → Type 0
+abbrev pub Binds : List Piece → List Piece → List (List ℕ) → Type 0
 Binds before after labels = map piece_bytes after ≡ map piece_bytes before ++ map instance_bytes labels

@@ -1,5 +1,5 @@
 -- The positions that a phase opens, as a play.
-use Rattle.std.specs.Prelude.{◌≡◌, ℕ, zero, suc, ◌+◌, ◌-◌, ◌*◌, ◌^◌, ◌<◌, ◌≤◌, Bool, true, false, cond, List, [], ◌∷◌, ◌++◌, length, drop, Ok, Err, Result, ◌==◌}
+use Rattle.std.specs.Prelude.{◌≡◌, ℕ, zero, suc, ◌+◌, ◌-◌, ◌*◌, ◌^◌, ◌<◌, ◌≤◌, Bool, true, false, cond, List, [], ◌∷◌, ◌++◌, length, take, drop, Ok, Err, Result, ◌==◌}
 use Rattle.std.specs.List.{AllByRecursion}
 use Rattle.sponge.specs.Play.{Rules, Play, done, ◌>>=◌, each, counted, read}
 use Rattle.sponge.specs.Plays.{Plays}
@@ -65,3 +65,16 @@ pub record Fills (m : Rules) (s : List ℕ) (p : Play ⊥ (List ℕ)) (t : List 
 abbrev pub Indices : Rules → Numbers → ℕ → Result (Unit {0}) NoRoom → List ℕ → List ℕ → List ℕ → List ℕ → Type 0
 Indices m N i (Ok _) s t before after = (rows N N.stored i ≤ length before) × Fills m s (positions N i) t (rows N N.stored i) before after
 Indices m N i (Err _) s t before after = (length before < rows N N.stored i) × (t ≡ s) × (after ≡ before)
+
+-- A play's answer, so many numbers, is written into a slice from a place on; what stands before that place stays, and the rest too.
+pub record FillsFrom (m : Rules) (s : List ℕ) (p : Play ⊥ (List ℕ)) (t : List ℕ) (from n : ℕ) (before after : List ℕ) : Type 0 where
+  pub drawn : List ℕ
+  pub count : length drawn ≡ n
+  pub plays : Plays m s p (Ok drawn) t
+  pub filled : after ≡ take from before ++ (drawn ++ drop (from + n) before)
+
+-- The positions of a phase are drawn into a slice from a place on, if it has room for them; else, and so from a place past its end on,
+-- nothing happens.
+abbrev pub IndicesFrom : Rules → Numbers → ℕ → Result (Unit {0}) NoRoom → List ℕ → List ℕ → ℕ → List ℕ → List ℕ → Type 0
+IndicesFrom m N i (Ok _) s t from before after = (from + rows N N.stored i ≤ length before) × FillsFrom m s (positions N i) t from (rows N N.stored i) before after
+IndicesFrom m N i (Err _) s t from before after = (length before < from + rows N N.stored i) × (t ≡ s) × (after ≡ before)

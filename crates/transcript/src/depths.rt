@@ -28,7 +28,10 @@ impl Iterator for Depths {
 pub fn query_summand_depths(heap: Global, draws: usize) -> Result<Vec<usize>, AllocError>
     ensures { IfOk result (λ ts. ts.items ≡ depths draws) }
 {
-    Depths(draws).collect(heap)
+    // as many as bits are set, so the list takes one block of the right size
+    let mut summands = Vec::with_capacity(heap, draws.count_ones() as usize)?;
+    summands.extend(Depths(draws))?;
+    Ok(summands)
 }
 
 // The powers of the depths sum to the draws, the depths fall, and there are as many as bits are set.

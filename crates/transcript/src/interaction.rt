@@ -1,5 +1,6 @@
 // The steps of a run as they are described, and the bytes of each.
 ghost use Rattle.std.specs.Prelude.{◌≡◌};
+ghost use Rattle.transcript.specs.Written.{written};
 ghost use Rattle.transcript.specs.Steps.{label_bytes, step_bytes, step_of, marker, commitment_step, drawn_step, sent_step, grinding_step, indices_step};
 
 use crate::piece::Piece;
@@ -163,22 +164,16 @@ impl Interaction {
     // The bytes that stand for the step in the separator.
     #[tactic(auto, using(crate::proofs::Writing::eight_bytes, crate::proofs::Writing::label_short), unfolding(crate::specs::Steps::step_bytes))]
     pub fn encode(&self) -> Piece
-        ensures { result.items ≡ step_bytes (step_of self.now) }
+        ensures { written result ≡ step_bytes (step_of self.now) }
     {
         let mut piece = Piece::new();
         piece.push(0);
         piece.push(self.hierarchy as u8);
         piece.push(self.kind as u8);
         piece.push(self.value as u8);
-        piece
-            .try_extend_from_slice(&self.width.to_be_bytes())
-            .unwrap();
-        piece
-            .try_extend_from_slice(&self.length.to_be_bytes())
-            .unwrap();
-        piece
-            .try_extend_from_slice(self.label.as_str().as_bytes())
-            .unwrap();
+        piece.append(&self.width.to_be_bytes());
+        piece.append(&self.length.to_be_bytes());
+        piece.append(self.label.as_str().as_bytes());
         piece
     }
 }

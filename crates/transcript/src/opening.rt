@@ -15,7 +15,7 @@ ghost use Rattle.transcript.specs.Opening.{taken, opening};
 
 use crate::depths::Depths;
 use crate::interaction::{Hierarchy, Interaction, Label};
-use crate::piece::instance;
+use crate::piece::Piece;
 use crate::query::QuerySite;
 use crate::sites::{factor_of, final_poly_len, query_site};
 use configuration::whir::WhirConfig;
@@ -67,7 +67,7 @@ fn observe_numbers<S: Sponge>(sponge: &mut S, numbers: &[usize])
     ensures { S.Sponge.held sponge.new ≡ taken S.Sponge.rules instance_bytes (S.Sponge.held sponge.old) (map eight numbers.now) }
 {
     for number in numbers {
-        sponge.observe(instance(&number.to_be_bytes()).as_slice());
+        sponge.observe(Piece::instance(&number.to_be_bytes()).as_slice());
     }
 }
 
@@ -78,8 +78,8 @@ fn observe_domain<S: Sponge>(sponge: &mut S, id: &[u8], stratified: bool)
     ensures { S.Sponge.held sponge.new ≡ taken S.Sponge.rules instance_bytes (S.Sponge.held sponge.old) (domain_instances id.now stratified) }
 {
     if !id.is_empty() {
-        sponge.observe(instance(id).as_slice());
-        sponge.observe(instance(&[u8::from(stratified)]).as_slice());
+        sponge.observe(Piece::instance(id).as_slice());
+        sponge.observe(Piece::instance(&[u8::from(stratified)]).as_slice());
     }
 }
 

@@ -75,12 +75,12 @@ pub(crate) fn redraw<S: Sponge>(
 ) -> Result<(), NoRoom>
     ensures { Indices S.Sponge.rules (numbers_of config.now.numbers) (phase_of (numbers_of config.now.numbers) round) result (S.Sponge.held sponge.old) (S.Sponge.held sponge.new) out.old out.new }
 {
-    let rows = config.positions(round).rows();
+    let site = query_site(config, round);
+    let rows = site.draws.unwrap_or(1 << site.index_bits);
     if rows > out.len() {
         return Err(NoRoom);
     }
     let stratified = config.numbers.stratified_queries;
-    let site = query_site(config, round);
     draw_positions(sponge, &mut out[..rows], site, stratified);
     Ok(())
 }

@@ -7,7 +7,7 @@ ghost use Rattle.configuration.specs.Numbers.{numbers_of};
 ghost use Rattle.transcript.specs.Shape.{difficulty};
 ghost use Rattle.transcript.specs.Sites.{phase_of};
 ghost use Rattle.transcript.specs.Opening.{opening};
-ghost use Rattle.transcript.specs.Positions.{Indices};
+ghost use Rattle.transcript.specs.Positions.{IndicesFrom};
 ghost use Rattle.transcript.specs.Playing.{query_grinding, values_observed, final_values, canonical};
 
 use crate::delegated::Delegated;
@@ -21,37 +21,36 @@ use sponge::Sponge;
 use sponge::drawing::{check_witness, draw_extension, observe_extension};
 
 // A run that has been opened and not yet closed. It is no `Drop`: it is closed by `finish` or by `abort`, and by nothing else.
-pub struct Run<'a> {
-    config: &'a WhirConfig,
+pub struct Run {
+    mark: (),
 }
 
-// Kept: the sponge is handed to each step. A `Run<'a, S>` that held it as `&'a mut S` was tried and proved, but it asks more of callers, who
-// could not read or use the sponge between two steps, and each of ten steps would promise two facts more: that the configuration stays, and
-// that the reference does.
-impl<'a> Run<'a> {
+// Kept: the sponge is handed to each step, and the configuration to each that reads it. A `Run<'a, S>` that held the sponge as `&'a mut S` was
+// tried and proved, but it asks more of callers, who could not read or use the sponge between two steps, and each of ten steps would promise
+// a fact more: that the reference stays. One that borrowed the configuration would keep its owner from moving or changing it until it is closed.
+impl Run {
     // Opens a run: the separator of the configuration is observed.
     pub fn open<F: BaseField, E: ExtensionField<F>, S: Sponge>(
         sponge: &mut S,
-        config: &'a WhirConfig,
+        config: &WhirConfig,
         num_opening_claims: usize,
-    ) -> Run<'a>
-        ensures config { result.config.now ≡ config.now }
-        ensures plays { Plays S.Sponge.rules (S.Sponge.held sponge.old) (opening (numbers_of config.now.numbers) E.ExtensionField.extension.degree num_opening_claims) (Ok tt) (S.Sponge.held sponge.new) }
+    ) -> Run
+        ensures { Plays S.Sponge.rules (S.Sponge.held sponge.old) (opening (numbers_of config.now.numbers) E.ExtensionField.extension.degree num_opening_claims) (Ok tt) (S.Sponge.held sponge.new) }
     {
         observe_separator(sponge, config, E::degree(), num_opening_claims);
-        Run { config }
+        Run { mark: () }
     }
 
     // Closes a run whose every step was played.
     //
     // Kept: `finish` and `abort` are the original's own two ends; one function for both would be told which end it is, and would not read it.
     pub fn finish(self) {
-        let Run { config: _ } = self;
+        let Run { mark: _ } = self;
     }
 
     // Closes a run because the proof is being rejected.
     pub fn abort(self) {
-        let Run { config: _ } = self;
+        let Run { mark: _ } = self;
     }
 
     // Binds one round's commitment, by the bytes that its scheme gives.
@@ -118,12 +117,13 @@ impl<'a> Run<'a> {
     pub fn delegate_final_fold<S: Sponge, D: Delegated<S> + Drop>(
         &self,
         sponge: &mut S,
+        config: &WhirConfig,
         final_fold: D,
     ) -> Option<D::Answer>
-        ensures fold { is_some result ≡ not (nat_eq self.now.config.now.numbers.final_sumcheck_rounds 0) }
+        ensures fold { is_some result ≡ not (nat_eq config.now.numbers.final_sumcheck_rounds 0) }
         ensures runs { MatchOption result (sponge.new ≡ sponge.old) (λ answer. D.Delegated.runs final_fold (S.Sponge.held sponge.old) answer (S.Sponge.held sponge.new)) }
     {
-        if self.config.numbers.final_sumcheck_rounds == 0 {
+        if config.numbers.final_sumcheck_rounds == 0 {
             return None;
         }
         Some(final_fold.run(sponge))
@@ -133,12 +133,13 @@ impl<'a> Run<'a> {
     pub fn query_pow<F: BaseField, S: Sponge>(
         &self,
         sponge: &mut S,
+        config: &WhirConfig,
         round: usize,
         witness: F,
     ) -> Result<(), TranscriptFailure>
-        ensures { Plays S.Sponge.rules (S.Sponge.held sponge.old) (query_grinding F.BaseField.numbering (numbers_of self.now.config.now.numbers) round witness) result (S.Sponge.held sponge.new) }
+        ensures { Plays S.Sponge.rules (S.Sponge.held sponge.old) (query_grinding F.BaseField.numbering (numbers_of config.now.numbers) round witness) result (S.Sponge.held sponge.new) }
     {
-        let bits = query_site(self.config, round).pow_bits;
+        let bits = query_site(config, round).pow_bits;
         if check_witness(sponge, bits as u32, witness.number()) {
             Ok(())
         } else {
@@ -146,29 +147,36 @@ impl<'a> Run<'a> {
         }
     }
 
-    // Redraws the query indices of a round into the first places of a slice; where they have no room, nothing is drawn or written.
+    // Redraws the query indices of a round into a slice, from a place on; where they have no room, nothing is drawn or written.
     //
     // A round at or past the last one names the final site.
     pub fn query_indices<S: Sponge>(
         &self,
         sponge: &mut S,
+        config: &WhirConfig,
         round: usize,
         out: &mut [usize],
+        from: usize,
     ) -> Result<(), NoRoom>
-        ensures { Indices S.Sponge.rules (numbers_of self.now.config.now.numbers) (phase_of (numbers_of self.now.config.now.numbers) round) result (S.Sponge.held sponge.old) (S.Sponge.held sponge.new) out.old out.new }
+        ensures { IndicesFrom S.Sponge.rules (numbers_of config.now.numbers) (phase_of (numbers_of config.now.numbers) round) result (S.Sponge.held sponge.old) (S.Sponge.held sponge.new) from out.old out.new }
     {
-        redraw(sponge, self.config, round, out)
+        if from > out.len() {
+            return Err(NoRoom);
+        }
+        let (_, part) = out.split_at_mut(from);
+        redraw(sponge, config, round, part)
     }
 
     // Binds the final polynomial the proof carries, if it has as many values as were described.
     pub fn final_poly<F: BaseField, E: ExtensionField<F>, S: Sponge>(
         &self,
         sponge: &mut S,
+        config: &WhirConfig,
         evaluations: &[E],
     ) -> Result<(), TranscriptFailure>
-        ensures { Plays S.Sponge.rules (S.Sponge.held sponge.old) (final_values F.BaseField.numbering E.ExtensionField.extension (numbers_of self.now.config.now.numbers) evaluations.now) result (S.Sponge.held sponge.new) }
+        ensures { Plays S.Sponge.rules (S.Sponge.held sponge.old) (final_values F.BaseField.numbering E.ExtensionField.extension (numbers_of config.now.numbers) evaluations.now) result (S.Sponge.held sponge.new) }
     {
-        let expected = final_poly_len(self.config);
+        let expected = final_poly_len(config);
         let got = evaluations.len();
         if got != expected {
             return Err(TranscriptFailure::FinalPolyLength { expected, got });
@@ -189,7 +197,7 @@ fn observe_values<F: BaseField, E: ExtensionField<F>, S: Sponge>(sponge: &mut S,
 
 // Refuses a query witness that is not 0 where no work is asked for.
 //
-// Kept: it takes the configuration, since a proof is asked this before a run of it is opened.
+// Kept: it is no step of a run, since a proof is asked this before a run of it is opened.
 pub fn check_canonical<F: BaseField>(
     config: &WhirConfig,
     round: usize,

@@ -13,7 +13,7 @@ ghost use Rattle.transcript.specs.Opening.{pieces, separator, observe_all};
 ghost use Rattle.transcript.specs.Owned.{piece_bytes, sumcheck_of, shape_of, Binds};
 
 use crate::pattern::InteractionPattern;
-use crate::piece::{Piece, instance};
+use crate::piece::Piece;
 use crate::shape::{SumcheckShape, WhirShape};
 use configuration::whir::WhirConfig;
 use configuration::whir_parameters::SecurityAssumption;
@@ -54,8 +54,8 @@ impl DomainSeparator {
         ensures { IfOk result (λ s. map piece_bytes s.pieces.items ≡ pieces (map step_of pattern.now.interactions.items) []) }
     {
         let mut pieces = Vec::new(heap);
-        pieces.push(Piece::try_from(&[VERSION][..]).unwrap())?;
-        pieces.push(Piece::try_from(NAME).unwrap())?;
+        pieces.push(Piece::of(&[VERSION]))?;
+        pieces.push(Piece::of(NAME))?;
         for step in &pattern.interactions {
             pieces.push(step.encode())?;
         }
@@ -78,7 +78,7 @@ impl DomainSeparator {
         requires { length bytes.now ≤ 32 }
         ensures { IfOk result (λ _. Binds self.old.pieces.items self.new.pieces.items (bytes.now ∷ [])) }
     {
-        Ok(self.pieces.push(instance(bytes))?)
+        Ok(self.pieces.push(Piece::instance(bytes))?)
     }
 
     // Append numbers, each as eight big-endian bytes.

@@ -5,7 +5,7 @@ ghost use Rattle.configuration.specs.Phases.{factor};
 ghost use Rattle.transcript.specs.Shape.{difficulty};
 ghost use Rattle.transcript.specs.Sites.{Site};
 
-use crate::query::QuerySite;
+pub use crate::query::QuerySite;
 use configuration::whir::WhirConfig;
 
 // The query site of a round. A round at or past the last one names the final site.

@@ -1,5 +1,5 @@
 -- The queries of a phase: what the calls of their verification come to, as plays.
-use Rattle.std.proofs.Common.{◌≡◌, ℕ, ◌≤◌, min, Bool, true, false, cond, List, [], ◌∷◌, ◌++◌, length, drop, IsErrAnd, Ok, Err, Option, Result, ◌==◌, sym, refl, ap, ◌∙◌, subst, arith}
+use Rattle.std.proofs.Common.{◌≡◌, ℕ, ◌+◌, ◌≤◌, Bool, true, false, cond, List, [], ◌∷◌, ◌++◌, length, drop, IsErrAnd, Ok, Err, Option, Result, ◌==◌, sym, refl, ap, ◌∙◌, subst, arith}
 use Rattle.std.proofs.lemmas.List.{drop_all, append-nil}
 use Rattle.sponge.specs.Play.{Rules, Play, done, ◌>>◌, Outcome, reworded, goes_on, tested, run, read}
 use Rattle.sponge.proofs.Passing.{plays_read}
@@ -13,7 +13,7 @@ use Rattle.configuration.specs.Phases.{rows}
 use Rattle.transcript.specs.Shape.{difficulty}
 use Rattle.transcript.specs.Sites.{phase_of}
 use Rattle.transcript.specs.Playing.{query_grinding}
-use Rattle.transcript.specs.Positions.{Indices, positions}
+use Rattle.transcript.specs.Positions.{Indices, IndicesFrom, positions}
 use Rattle.transcript.specs.declared.failure.NoRoom.{NoRoom}
 use Rattle.transcript.specs.declared.failure.TranscriptFailure.{TranscriptFailure}
 use Rattle.transcript.specs.declared.failure.TranscriptFailure.TheVariants.{PowWitness}
@@ -58,6 +58,14 @@ module _ {F : Type 0} (m : Rules) (s t : List ℕ) (n : Numbering F) (N : Number
           let same : PowWitness round bits ≡ r = cc in
           (ap (λ l. record { answer = Ok false; list = l }) (ap (λ c. c.list) e), sym same)
       go (Err z) u e = absurd z
+
+-- what was drawn from place 0 on was drawn into the whole slice
+from_first : (m : Rules) (N : Numbers) (i : ℕ) (s t before after : List ℕ) (r : Result Unit NoRoom) → IndicesFrom m N i r s t 0 before after → Indices m N i r s t before after
+from_first m N i s t before after (Ok u) h =
+    let f = h.1 in
+    let all : 0 + rows N N.stored i ≡ rows N N.stored i = omega arith in
+    (omega (arith, h.0), record { drawn = f.drawn; count = f.count; plays = f.plays; filled = f.filled ∙ ap (λ n. f.drawn ++ drop n before) all })
+from_first m N i s t before after (Err e) h = (omega (arith, h.0), h.1, h.2)
 
 -- indices that are drawn into exactly as many places
 pub all_drawn : (m : Rules) (N : Numbers) (i : ℕ) (s t before after : List ℕ) (r : Result Unit NoRoom) → length before ≡ rows N N.stored i → Indices m N i r s t before after
@@ -151,25 +159,23 @@ module _ {F E C P : Type 0} (S : Setting F E C P) (m : Rules) (s t : List ℕ) (
         (leads_refused (queries S i w) (λ q. ask_all (opening_checks S i c q.positions o) >> done q.positions) (leads_none m s (queried_play S i c w o)) (queries_refused k), refl, refl)
 
 -- The two steps of a run, for a phase that there is.
-module _ {F E C P : Type 0} (S : Setting F E C P) (m : Rules) (s t : List ℕ) (i : ℕ) (w : F) (N : Numbers) (same : N ≡ S.numbers) (there : i ≤ last S) (c : Option C) (o : Opening F E P) (before : List ℕ) where
-  phase_there : phase_of N i ≡ i
-  phase_there = let e : phase_of N i ≡ min i (last S) = ap (λ M. phase_of M i) same in omega (arith, e)
+module _ {F E C P : Type 0} (S : Setting F E C P) (m : Rules) (s t : List ℕ) (i : ℕ) (w : F) (there : i ≤ last S) (c : Option C) (o : Opening F E P) (before : List ℕ) where
+  phase_there : phase_of S.numbers i ≡ i
+  phase_there = omega arith
 
-  cleared : {b : Bool} → Plays m s (check_witness (difficulty N (phase_of N i)) (S.numbering.number w)) (Ok b) t → Plays m s (check_witness (difficulty S.numbers i) (S.numbering.number w)) (Ok b) t
-  cleared {b} h =
-      subst (λ M. Plays m s (check_witness (difficulty M i) (S.numbering.number w)) (Ok b) t) same
-      (subst (λ k. Plays m s (check_witness (difficulty N k) (S.numbering.number w)) (Ok b) t) phase_there h)
+  cleared : {b : Bool} → Plays m s (check_witness (difficulty S.numbers (phase_of S.numbers i)) (S.numbering.number w)) (Ok b) t → Plays m s (check_witness (difficulty S.numbers i) (S.numbering.number w)) (Ok b) t
+  cleared {b} h = subst (λ k. Plays m s (check_witness (difficulty S.numbers k) (S.numbering.number w)) (Ok b) t) phase_there h
 
-  pub refused_by_grinding : (e : TranscriptFailure) (r : Result Unit (VerifierError E)) → Plays m s (query_grinding S.numbering N i w) (Err e) t → IsErrAnd r (λ x. x ≡ of_transcript e)
+  pub refused_by_grinding : (e : TranscriptFailure) (r : Result Unit (VerifierError E)) → Plays m s (query_grinding S.numbering S.numbers i w) (Err e) t → IsErrAnd r (λ x. x ≡ of_transcript e)
       → Queried m s (queried_play S i c w o) r t before before
   refused_by_grinding e r h handed =
-      let f = failed m s t S.numbering N i w e h in
-      let bits : ◌≡◌ {A = VerifierError E} (InvalidPowWitness i (difficulty N (phase_of N i))) (InvalidPowWitness i (difficulty S.numbers i)) = ap (λ k. InvalidPowWitness i (difficulty N k)) phase_there ∙ ap (λ M. InvalidPowWitness i (difficulty M i)) same in
+      let f = failed m s t S.numbering S.numbers i w e h in
+      let bits : ◌≡◌ {A = VerifierError E} (InvalidPowWitness i (difficulty S.numbers (phase_of S.numbers i))) (InvalidPowWitness i (difficulty S.numbers i)) = ap (λ k. InvalidPowWitness i (difficulty S.numbers k)) phase_there in
       queried_refused S m s t i w c o before (of_transcript e) r (ap (λ x. of_transcript x) f.1 ∙ bits) handed (cleared f.0)
 
-  pub answered_by_opening : (u after : List ℕ) (d : Result Unit NoRoom) (r : Result Unit (VerifierError E)) → Plays m s (query_grinding S.numbering N i w) (Ok tt) t → length before ≡ rows S.numbers S.numbers.stored i
-      → Indices m N (phase_of N i) d t u before after → r ≡ verdict (opening_checks S i c after o) tt → Queried m s (queried_play S i c w o) r u before after
+  pub answered_by_opening : (u after : List ℕ) (d : Result Unit NoRoom) (r : Result Unit (VerifierError E)) → Plays m s (query_grinding S.numbering S.numbers i w) (Ok tt) t → length before ≡ rows S.numbers S.numbers.stored i
+      → IndicesFrom m S.numbers (phase_of S.numbers i) d t u 0 before after → r ≡ verdict (opening_checks S i c after o) tt → Queried m s (queried_play S i c w o) r u before after
   answered_by_opening u after d r h full drawn is =
-      let drawn' : Indices m S.numbers i d t u before after = subst (λ M. Indices m M i d t u before after) same (subst (λ k. Indices m N k d t u before after) phase_there drawn) in
-      let all = all_drawn m S.numbers i t u before after d full drawn' in
-      queried_by S m s t i w c o before u (record { clear = true; positions = after }) r (queries_drawn S m s t i w u after (cleared (passed m s t S.numbering N i w h)) all.0) all.1 is
+      let drawn' : IndicesFrom m S.numbers i d t u 0 before after = subst (λ k. IndicesFrom m S.numbers k d t u 0 before after) phase_there drawn in
+      let all = all_drawn m S.numbers i t u before after d full (from_first m S.numbers i t u before after d drawn') in
+      queried_by S m s t i w c o before u (record { clear = true; positions = after }) r (queries_drawn S m s t i w u after (cleared (passed m s t S.numbering S.numbers i w h)) all.0) all.1 is

@@ -126,12 +126,14 @@ impl<'a, F: BaseField, E: ExtensionField<F>, D: WhirDomain<F>, O: OpeningScheme<
         positions: &mut [usize],
     ) -> Result<(), VerifierError<E>>
         requires phase { phase ≤ length self.now.config.now.numbers.round_parameters.items }
-        requires run { run.now.config.now ≡ self.now.config.now }
         requires room { length positions.old ≡ rows (numbers_of self.now.config.now.numbers) (numbers_of self.now.config.now.numbers).stored phase }
         ensures { Queried S.Sponge.rules (S.Sponge.held sponge.old) (queried_play (setting (numbers_of self.now.config.now.numbers) self.now.variable_order F.Field.ops E.Field.ops E.PartialEq.eq F.BaseField.numbering E.ExtensionField.extension (by_word F.BaseField.numbering) (D.WhirDomain.meaning self.now.domain.now) (O.OpeningScheme.meaning self.now.scheme.now)) phase (Some commitment.now) witness (opening_of opened.now)) result (S.Sponge.held sponge.new) positions.old positions.new }
     {
-        run.query_pow(sponge, phase, witness)?;
-        if run.query_indices(sponge, phase, positions).is_err() {
+        run.query_pow(sponge, self.config, phase, witness)?;
+        if run
+            .query_indices(sponge, self.config, phase, positions, 0)
+            .is_err()
+        {
             return Err(VerifierError::BufferTooSmall);
         }
         self.verify_merkle_proof(phase, commitment, positions, opened)

@@ -4,4 +4,4 @@ use Rattle.commit.proofs.merkle.leaf.Goals as goal
 
 pub returns : goal.returns
 returns g c =
-    c.finish.ensures _ (c.feed-hasher.ensures _ [] (λ bs a. subst (λ (l : List ℕ). Absorbed c.new.result l) (sym (append-nil bs)) a) [] c.new.ensures)
+    c.finish.ensures _ (c.feed.ensures _ [] (λ bs a. subst (λ (l : List ℕ). Absorbed c.new.result l) (sym (append-nil bs)) a) [] c.new.ensures)

@@ -1,5 +1,4 @@
-use Rattle.std.proofs.Common.{◌≡◌, suc, ◌<◌, ◌≤◌, ◌≢◌, length, take, ap, arith, lit<}
-use Rattle.std.proofs.lemmas.List.{length-append, length-take-le}
+use Rattle.std.proofs.Common.{◌≡◌, suc, ◌<◌, ◌≤◌, ◌≢◌, length, arith, lit<}
 use Rattle.std.proofs.lemmas.Bool.Decides.{nat_tests}
 use Rattle.blake2s.proofs.Steps.{pressed_bytes, filled}
 use Rattle.blake2s.proofs.state.Hasher.take_some.Goals as goal
@@ -9,7 +8,7 @@ returns-in-Some c =
     let cut = c.in-Some.ensures.cases in
     let long : 64 ≤ length c.args.rest.now = omega arith in
     let some : length c.in-Some.more.now ≢ 0 = grind (arith, nat_tests) in
-    let none : length c.args.self.now.block.items ≡ 0 = grind (arith, nat_tests) in
+    let none : c.args.self.now.filled ≡ 0 = grind (arith, nat_tests) in
     record {
       some = lit< tt;
       within = long;
@@ -29,11 +28,10 @@ returns-in_default c =
     record {
       some = some;
       within = within;
-      held =
-          λ _. omega (arith, some, ap length e.waits, length-append c.args.self.now.block.items (take c.fill.result c.args.rest.now), length-take-le c.fill.result c.args.rest.now within);
+      held = λ _. omega (arith, e.filled, some);
       keeps =
           λ xs n cut. (
             n,
-            filled c.args.self.now c.fill.new.self c.args.rest.now c.fill.result e.waits e.state e.counted xs n cut,
+            filled c.args.self.now c.fill.new.self c.args.rest.now c.fill.result within e.filled e.waits e.state e.counted xs n cut,
           );
     }

@@ -1,6 +1,6 @@
 use Rattle.std.proofs.Common.{vec_items}
 use Rattle.format.proofs.Lists.{leads_breaks}
-use Rattle.format.proofs.cursor.Cursor.items.Goals as goal
+use Rattle.format.proofs.lines.Cursor.items.Goals as goal
 
 pub returns-in_err-item : goal.returns-in_err-item
 returns-in_err-item g c =

@@ -1,0 +1,8 @@
+use Rattle.std.proofs.Common.{ap, ◌∙◌, ◌++◌}
+use Rattle.std.proofs.lemmas.List.{append-nil}
+use Rattle.blake2s.specs.Blake2s.{hash}
+use Rattle.blake2s.proofs.hash_three.Goals as goal
+
+pub returns : goal.returns
+returns c =
+    c.hash_pieces.ensures ∙ ap (λ xs. hash (c.args.first.now ++ (c.args.second.now ++ xs))) (append-nil c.args.third.now)
