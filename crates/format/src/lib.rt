@@ -9,3 +9,5 @@ pub mod numbers;
 pub mod parts;
 pub mod reading;
 pub mod run;
+#[cfg(test)]
+mod tests;

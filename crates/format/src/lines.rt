@@ -14,8 +14,8 @@ use configuration::whir_parameters::{RoundConfig, TerminalBudget};
 use parameters::folding::FoldingFactor;
 use std::alloc::Global;
 
-// What stands behind the key word of a line, read by a cursor that makes its lists with an `H`.
-pub trait Part<H>: Drop + Sized {
+// What stands behind the key word of a line.
+pub trait Part: Drop + Sized {
     // What a value is to the definitions.
     ghost Shown: { Type 0 };
 
@@ -25,46 +25,114 @@ pub trait Part<H>: Drop + Sized {
     ghost reading: { List ℕ → Read Shown };
 
     // The value at the front of a text.
-    fn read(cursor: &mut Cursor<'_, H>) -> Result<Self, Fault>
+    fn read(cursor: &mut Cursor) -> Result<Self, Fault>
         ensures { Gives shown (reading cursor.old.rest.now) result cursor.new.rest.now };
 }
 
-// What stands one after another in a list, read by a cursor that makes its lists with an `H`.
-pub trait Item<H>: Drop + Sized {
+// What stands one after another in a list.
+pub trait Item: Drop + Sized {
     // The definition of how the item of an index is read.
     ghost item: { ℕ → List ℕ → Read Self };
 
     // The item of this index, at the front of a text.
-    fn read_at(cursor: &mut Cursor<'_, H>, index: usize) -> Result<Self, Fault>
+    fn read_at(cursor: &mut Cursor, index: usize) -> Result<Self, Fault>
         ensures { Gives plain (item index cursor.old.rest.now) result cursor.new.rest.now };
 }
 
+// What stands behind the key word of a line, read by a cursor that makes its lists with an `H`.
+pub trait PartWith<H>: Drop + Sized {
+    // What a value is to the definitions.
+    ghost Shown: { Type 0 };
+
+    ghost shown: { Self → Shown };
+
+    // The definition of how it is read.
+    ghost reading: { List ℕ → Read Shown };
+
+    // The value at the front of a text.
+    fn read_with(cursor: &mut Cursor<'_, H>) -> Result<Self, Fault>
+        ensures { Gives shown (reading cursor.old.rest.now) result cursor.new.rest.now };
+}
+
+// What stands one after another in a list, read by a cursor that makes its lists with an `H`.
+pub trait ItemWith<H>: Drop + Sized {
+    // The definition of how the item of an index is read.
+    ghost item: { ℕ → List ℕ → Read Self };
+
+    // The item of this index, at the front of a text.
+    fn read_at_with(cursor: &mut Cursor<'_, H>, index: usize) -> Result<Self, Fault>
+        ensures { Gives plain (item index cursor.old.rest.now) result cursor.new.rest.now };
+}
+
+// With the global allocator for `H`, each of them is a part or an item. Both calls are inlined: they stand in each line and in the loop of a list.
+impl<P: PartWith<Global>> Part for P {
+    ghost Shown = { P.PartWith.Shown };
+
+    ghost shown = { P.PartWith.shown };
+
+    ghost reading = { P.PartWith.reading };
+
+    #[inline(always)]
+    fn read(cursor: &mut Cursor) -> Result<P, Fault> {
+        P::read_with(cursor)
+    }
+}
+
+impl<T: ItemWith<Global>> Item for T {
+    ghost item = { T.ItemWith.item };
+
+    #[inline(always)]
+    fn read_at(cursor: &mut Cursor, index: usize) -> Result<T, Fault> {
+        T::read_at_with(cursor, index)
+    }
+}
+
+// A part as a `PartWith<Global>`, so that `line_with` reads it.
+#[derive(Drop)]
+struct AsPartWith<P> {
+    part: P,
+}
+
+impl<P: Part> PartWith<Global> for AsPartWith<P> {
+    ghost Shown = { P.Part.Shown };
+
+    ghost shown = { λ whole. P.Part.shown whole.part };
+
+    ghost reading = { P.Part.reading };
+
+    fn read_with(cursor: &mut Cursor) -> Result<AsPartWith<P>, Fault> {
+        Ok(AsPartWith {
+            part: P::read(cursor)?,
+        })
+    }
+}
+
 // A number, behind a blank.
-impl<H> Item<H> for usize {
+impl<H> ItemWith<H> for usize {
     ghost item = { λ _. next_number };
 
-    fn read_at(cursor: &mut Cursor<'_, H>, _index: usize) -> Result<usize, Fault> {
+    fn read_at_with(cursor: &mut Cursor<'_, H>, _index: usize) -> Result<usize, Fault> {
         cursor.next_number()
     }
 }
 
 // A byte, as a number behind a blank.
-impl<H> Item<H> for u8 {
+impl<H> ItemWith<H> for u8 {
     ghost item = { λ _. byte_item };
 
     #[tactic(auto, unfolding(crate::specs::Lines::byte_item, crate::specs::Reading::then))]
-    fn read_at(cursor: &mut Cursor<'_, H>, _index: usize) -> Result<u8, Fault> {
+    fn read_at_with(cursor: &mut Cursor<'_, H>, _index: usize) -> Result<u8, Fault> {
         let number = cursor.next_number()?;
         u8::try_from(number).map_err(|_| Fault::Syntax(Expected::Byte))
     }
 }
 
 // The line of a round.
-impl<H> Item<H> for RoundConfig {
+impl<H> ItemWith<H> for RoundConfig {
     ghost item = { round };
 
     #[tactic(auto, unfolding(crate::specs::Lines::round, crate::specs::Reading::numbers_listed, crate::specs::Reading::each, crate::specs::Reading::then))]
-    fn read_at(cursor: &mut Cursor<'_, H>, index: usize) -> Result<RoundConfig, Fault> {
+    fn read_at_with(cursor: &mut Cursor<'_, H>, index: usize) -> Result<RoundConfig, Fault> {
         cursor.key(Key::Round)?;
         cursor.index(index)?;
         let round = RoundConfig {
@@ -84,20 +152,20 @@ impl<H> Item<H> for RoundConfig {
 }
 
 // A number, behind a blank.
-impl<H> Part<H> for usize {
+impl<H> PartWith<H> for usize {
     ghost Shown = { ℕ };
 
     ghost shown = { plain };
 
     ghost reading = { next_number };
 
-    fn read(cursor: &mut Cursor<'_, H>) -> Result<usize, Fault> {
+    fn read_with(cursor: &mut Cursor<'_, H>) -> Result<usize, Fault> {
         cursor.next_number()
     }
 }
 
 // One of the two truth values.
-impl<H> Part<H> for bool {
+impl<H> PartWith<H> for bool {
     ghost Shown = { Bool };
 
     ghost shown = { plain };
@@ -105,7 +173,7 @@ impl<H> Part<H> for bool {
     ghost reading = { flag };
 
     #[tactic(auto, unfolding(crate::specs::Lines::flag, crate::specs::Reading::then))]
-    fn read(cursor: &mut Cursor<'_, H>) -> Result<bool, Fault> {
+    fn read_with(cursor: &mut Cursor<'_, H>) -> Result<bool, Fault> {
         match cursor.next_number()? {
             0 => Ok(false),
             1 => Ok(true),
@@ -115,7 +183,7 @@ impl<H> Part<H> for bool {
 }
 
 // A list: its length, then its items.
-impl<T: Item<Global>> Part<Global> for Vec<T> {
+impl<T: Item> PartWith<Global> for Vec<T> {
     ghost Shown = { List T };
 
     ghost shown = { vec_items };
@@ -123,14 +191,14 @@ impl<T: Item<Global>> Part<Global> for Vec<T> {
     ghost reading = { list_of T.item };
 
     #[tactic(auto, unfolding(crate::specs::Reading::list_of, crate::specs::Reading::then))]
-    fn read(cursor: &mut Cursor) -> Result<Vec<T>, Fault> {
+    fn read_with(cursor: &mut Cursor) -> Result<Vec<T>, Fault> {
         let count = cursor.next_number()?;
         cursor.items(count)
     }
 }
 
 // A folding strategy: its name, behind a blank, and its factors.
-impl Part<Global> for FoldingFactor {
+impl PartWith<Global> for FoldingFactor {
     ghost Shown = { Strategy };
 
     ghost shown = { strategy_of };
@@ -138,7 +206,7 @@ impl Part<Global> for FoldingFactor {
     ghost reading = { strategy };
 
     #[tactic(auto, unfolding(crate::specs::Lines::strategy, crate::specs::Lines::constant_behind, crate::specs::Lines::second_behind, crate::specs::Lines::listed_behind, crate::specs::Reading::then))]
-    fn read(cursor: &mut Cursor) -> Result<FoldingFactor, Fault> {
+    fn read_with(cursor: &mut Cursor) -> Result<FoldingFactor, Fault> {
         if cursor.takes(b" constant") {
             let factor = cursor.next_number()?;
             return Ok(FoldingFactor::Constant(factor));
@@ -149,7 +217,7 @@ impl Part<Global> for FoldingFactor {
             return Ok(FoldingFactor::ConstantFromSecondRound(first, later));
         }
         if cursor.takes(b" per_round") {
-            let factors = Vec::read(cursor)?;
+            let factors = Vec::read_with(cursor)?;
             return Ok(FoldingFactor::PerRound(factors));
         }
         Err(Fault::Syntax(Expected::Strategy))
@@ -157,7 +225,7 @@ impl Part<Global> for FoldingFactor {
 }
 
 // The queries and the difficulty of the final phase.
-impl<H> Part<H> for TerminalBudget {
+impl<H> PartWith<H> for TerminalBudget {
     ghost Shown = { TerminalBudget };
 
     ghost shown = { plain };
@@ -165,7 +233,7 @@ impl<H> Part<H> for TerminalBudget {
     ghost reading = { terminal_of };
 
     #[tactic(auto, unfolding(crate::specs::Lines::terminal_of, crate::specs::Reading::then))]
-    fn read(cursor: &mut Cursor<'_, H>) -> Result<TerminalBudget, Fault> {
+    fn read_with(cursor: &mut Cursor<'_, H>) -> Result<TerminalBudget, Fault> {
         let num_queries = cursor.next_number()?;
         let pow_bits = cursor.next_number()?;
         Ok(TerminalBudget {
@@ -190,21 +258,29 @@ impl<'a, H> Cursor<'a, H> {
 
     // A line: its key word, what stands behind it, and the line feed.
     #[tactic(auto, unfolding(crate::specs::Lines::line, crate::specs::Reading::then))]
-    pub fn line<P: Part<H>>(&mut self, key: Key) -> Result<P, Fault>
+    pub fn line_with<P: PartWith<H>>(&mut self, key: Key) -> Result<P, Fault>
         ensures { Gives P.shown (line key P.reading self.old.rest.now) result self.new.rest.now }
     {
         self.key(key)?;
-        let value = P::read(self)?;
+        let value = P::read_with(self)?;
         self.end_of_line()?;
         Ok(value)
     }
 }
 
-// What makes lists, and so needs an allocator.
+// What a cursor with the global allocator reads.
 impl<'a> Cursor<'a> {
+    // A line with any part behind its key word.
+    pub fn line<P: Part>(&mut self, key: Key) -> Result<P, Fault>
+        ensures { Gives P.shown (line key P.reading self.old.rest.now) result self.new.rest.now }
+    {
+        let AsPartWith { part } = self.line_with(key)?;
+        Ok(part)
+    }
+
     // As many items, one after another.
     #[tactic(auto, using(crate::proofs::Lists::leads_start, crate::proofs::Lists::leads_push, crate::proofs::Lists::leads_all))]
-    pub fn items<T: Item<Global>>(&mut self, count: usize) -> Result<Vec<T>, Fault>
+    pub fn items<T: Item>(&mut self, count: usize) -> Result<Vec<T>, Fault>
         ensures { Gives vec_items (each T.item 0 count self.old.rest.now) result self.new.rest.now }
     {
         let mut items = Vec::new(self.heap);
@@ -222,7 +298,7 @@ impl<'a> Cursor<'a> {
     pub fn rounds(&mut self) -> Result<Vec<RoundConfig>, Fault>
         ensures { Gives vec_items (rounds self.old.rest.now) result self.new.rest.now }
     {
-        let count = self.line(Key::Rounds)?;
+        let count = self.line_with(Key::Rounds)?;
         self.items(count)
     }
 }

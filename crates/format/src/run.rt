@@ -17,12 +17,12 @@ impl<'a> Cursor<'a> {
     pub fn run(&mut self) -> Result<RunNumbers, Fault>
         ensures { Gives run_of (run_lines self.old.rest.now) result self.new.rest.now }
     {
-        let degree = self.line(Key::Degree)?;
+        let degree = self.line_with(Key::Degree)?;
         self.rest = from_line(self.rest, Key::NumVariables.word().as_bytes());
         Ok(RunNumbers {
             degree,
             numbers: self.configuration()?,
-            num_opening_claims: self.line(Key::NumOpeningClaims)?,
+            num_opening_claims: self.line_with(Key::NumOpeningClaims)?,
         })
     }
 }

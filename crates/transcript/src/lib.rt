@@ -15,3 +15,5 @@ pub mod run;
 pub mod separator;
 pub mod shape;
 pub mod sites;
+#[cfg(test)]
+mod tests;

@@ -2,14 +2,20 @@
 ghost use Rattle.std.specs.Prelude.{◌≤◌};
 
 use std::fmt;
+use thiserror::Error;
 
-// The bytes so far. No piece is longer: a step has at most 39 bytes, an instance at most 41.
+// The bytes so far, at most 48: a step has at most 39, an instance at most 41.
 #[derive(Clone, Copy)]
 pub struct Piece {
     bytes: [u8; 48],
     len: usize,
     ghost fits: { len ≤ 48 },
 }
+
+// There are more than 48 bytes.
+#[derive(Clone, Copy, PartialEq, Eq, Debug, Error)]
+#[error("a piece has at most 48 bytes")]
+pub struct TooLong;
 
 impl Piece {
     ghost use Rattle.std.specs.Prelude.{◌≡◌, ◌+◌, ◌<◌, [], ◌∷◌, ◌++◌, length};
@@ -74,6 +80,23 @@ impl Piece {
         piece.append(&bytes.len().to_be_bytes());
         piece.append(bytes);
         piece
+    }
+}
+
+// A piece of these bytes, if there are at most 48.
+impl TryFrom<&[u8]> for Piece {
+    ghost use Rattle.std.specs.Prelude.{◌≡◌, ◌<◌, ◌≤◌, length, MatchResult};
+    ghost use Rattle.transcript.specs.Written.{written};
+
+    type Error = TooLong;
+
+    ghost try_from_gives = { λ bytes r. MatchResult r (λ piece. (written piece ≡ bytes.now) × (length bytes.now ≤ 48)) (λ _. 48 < length bytes.now) };
+
+    fn try_from(bytes: &[u8]) -> Result<Piece, TooLong> {
+        if bytes.len() > 48 {
+            return Err(TooLong);
+        }
+        Ok(Piece::of(bytes))
     }
 }
 
