@@ -64,7 +64,7 @@ pub trait ItemWith<H>: Drop + Sized {
         ensures { Gives plain (item index cursor.old.rest.now) result cursor.new.rest.now };
 }
 
-// With the global allocator for `H`, each of them is a part or an item. Both calls are inlined: they stand in each line and in the loop of a list.
+// Each `PartWith<Global>` is a `Part`, and each `ItemWith<Global>` an `Item`. Both calls only hand on, and are inlined.
 impl<P: PartWith<Global>> Part for P {
     ghost Shown = { P.PartWith.Shown };
 
